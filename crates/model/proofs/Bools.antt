@@ -1,0 +1,89 @@
+-- Tests, and the facts that they decide.
+use mathlib.Core.Path.{_≡_, refl, ap}
+use mathlib.Core.Bool.{Bool, true, false, cond, _&&_, false≢true}
+use mathlib.Core.List.{List, [], _∷_}
+use Prim.Native.Nat.{ℕ}
+use lib.Dec.{eqb}
+use borrow.Author.Tests.{eqb-true, eqb-false, eq-eqb}
+use Rattle.model.specs.Machine.{Machine, Holder, free, held}
+use Rattle.model.specs.Rules.{Event, Blocked}
+use Rattle.model.specs.Step.{notBlocked, isFree, holds, isEmpty, same}
+
+-- a test as a number, for counting
+abbrev pub one : Bool → ℕ
+one b = cond b 1 0
+
+pub false-true {ℓ} : {A : Type ℓ} → false ≡ true → A
+false-true e = absurd (false≢true e)
+
+pub and-true : {a b : Bool} → a ≡ true → b ≡ true → a && b ≡ true
+and-true {a} {b} p q = rw (p, q)
+
+pub and-left : (a b : Bool) → a && b ≡ true → a ≡ true
+and-left true b e = refl
+and-left false b e = e
+
+pub and-right : (a b : Bool) → a && b ≡ true → b ≡ true
+and-right true b e = e
+and-right false b e = false-true e
+
+pub same-true : (e f : Event) → same e f ≡ true → e ≡ f
+unfolding same
+same-true e f t =
+    let k : Bool = eqb (e .kind) (f .kind) in
+    let p : Bool = eqb (e .processor) (f .processor) in
+    let r : Bool = eqb (e .register) (f .register) in
+    let x : Bool = eqb (e .location) (f .location) in
+    let v : Bool = eqb (e .value) (f .value) in
+    let kprx : k && p && r && x ≡ true = and-left (k && p && r && x) v t in
+    let kpr : k && p && r ≡ true = and-left (k && p && r) x kprx in
+    let kp : k && p ≡ true = and-left (k && p) r kpr in
+    λ i. record {
+      kind = eqb-true (e .kind) (f .kind) (and-left k p kp) i;
+      processor = eqb-true (e .processor) (f .processor) (and-right k p kp) i;
+      register = eqb-true (e .register) (f .register) (and-right (k && p) r kpr) i;
+      location = eqb-true (e .location) (f .location) (and-right (k && p && r) x kprx) i;
+      value = eqb-true (e .value) (f .value) (and-right (k && p && r && x) v t) i;
+    }
+
+pub self : (n : ℕ) → eqb n n ≡ true
+self n = eq-eqb n n refl
+
+pub same-refl : (e : Event) → same e e ≡ true
+unfolding same
+same-refl e = and-true (and-true (and-true (and-true (self (e .kind)) (self (e .processor))) (self (e .register))) (self (e .location))) (self (e .value))
+
+pub notBlocked-true : (s : Machine) (p : ℕ) → notBlocked (s .holder) p ≡ true → ¬ Blocked s p
+unfolding notBlocked
+notBlocked-true s p t b = b .2 (eqb-true (b .0) p (rw (b .1) at t))
+
+pub true-notBlocked : (s : Machine) (p : ℕ) → ¬ Blocked s p → notBlocked (s .holder) p ≡ true
+unfolding notBlocked
+true-notBlocked s p n = go (s .holder) refl
+  where
+    other : (q : ℕ) → s .holder ≡ held q → (b : Bool) → eqb q p ≡ b → b ≡ true
+    other q h true e = refl
+    other q h false e = absurd (n (q, h, eqb-false q p e))
+
+    go : (h : Holder) → s .holder ≡ h → notBlocked h p ≡ true
+    go free h = refl
+    go (held q) h = other q h (eqb q p) refl
+
+pub isEmpty-true : {A : Type 0} (l : List A) → isEmpty l ≡ true → l ≡ []
+unfolding isEmpty
+isEmpty-true [] e = refl
+isEmpty-true (a ∷ l) e = false-true e
+
+pub isFree-true : (h : Holder) → isFree h ≡ true → h ≡ free
+unfolding isFree
+isFree-true free e = refl
+isFree-true (held q) e = false-true e
+
+pub holds-true : (h : Holder) (p : ℕ) → holds h p ≡ true → h ≡ held p
+unfolding holds
+holds-true free p e = false-true e
+holds-true (held q) p e = ap held (eqb-true q p e)
+
+pub holds-self : (p : ℕ) → holds (held p) p ≡ true
+unfolding holds
+holds-self p = self p

@@ -1,0 +1,145 @@
+-- Finishing: from any machine that a run reaches, with k steps left, the function gives k steps, each the finishing step, and the run is then finished.
+use mathlib.Core.Path.{_≡_, refl, sym, ap, _∙_, subst}
+use mathlib.Core.Bool.{Bool, true, false}
+use mathlib.Core.Option.{Option, some}
+use mathlib.Core.List.{List, [], _∷_}
+use Prim.Native.Nat.{ℕ, zero, suc, _<_}
+use native.Mathlib.Nat.{suc-inj}
+use native.Mathlib.Omega.{arith}
+use Rattle.model.specs.Program.{ProgramStep, read, write, fence, lock, unlock, local}
+use Rattle.model.specs.Kinds.{Entry}
+use Rattle.model.specs.Table.{start}
+use Rattle.model.specs.Machine.{Machine, WaitingWrite, Holder, free, held, processor}
+use Rattle.model.specs.Rules.{Event, Allowed, Drain, Run}
+use Rattle.model.specs.Step.{Move, notBlocked, isFree, holds, nextMove, moveFor}
+use Rattle.model.specs.Left.{left, Done, Finished, Mover, FinishingStep, drains, goesOn, FinishingRun}
+use Rattle.model.specs.Finish.{mover, drainOrNext, finishingMove, finishing, completion}
+use Rattle.model.specs.Orderly.{Paired, Orderly}
+use Rattle.model.specs.Promises.{Completes}
+use Rattle.model.proofs.Bools.{and-true, notBlocked-true}
+use Rattle.model.proofs.Steps.{take-move, step-allowed}
+use Rattle.model.proofs.Left.{one-less, zero-finished}
+use Rattle.model.proofs.Orderly.{orderly-kept}
+use Rattle.model.proofs.Runs.{reached-orderly, finished-length}
+use Rattle.model.proofs.Movers.{mover-moves, mover-free, mover-busy}
+
+-- ---- the move that the function chooses is allowed
+
+-- o is an allowed move of processor p, which its own event asks for
+record Chosen (s : Machine) (p : ℕ) (o : Option Move) : Type 0 where
+  move : Move
+  given : o ≡ some move
+  whose : move .event .processor ≡ p
+  asked : moveFor s (move .event) ≡ some move
+  allowed : move .allowed ≡ true
+
+-- a lock that p may take is free, one that p may give back is p's
+free-to-take : (h : Holder) (p : ℕ) (rest : List ProgramStep) → notBlocked h p ≡ true → Paired (holds h p) (lock ∷ rest) → isFree h ≡ true
+unfolding isFree holds notBlocked
+free-to-take free p rest n k = refl
+free-to-take (held q) p rest n k = absurd (rw n at k)
+
+held-to-give : (b : Bool) (rest : List ProgramStep) → Paired b (unlock ∷ rest) → b ≡ true
+held-to-give true rest k = refl
+held-to-give false rest k = absurd k
+
+module _ (s : Machine) (p : ℕ) (busy : ¬ Done (processor s p)) (n : notBlocked (s .holder) p ≡ true) where
+  choose-next : (todo : List ProgramStep) → processor s p .todo ≡ todo → processor s p .waiting ≡ [] → Paired (holds (s .holder) p) todo → Chosen s p (nextMove s p todo)
+  unfolding moveFor
+  choose-next [] h w o = absurd (busy (h, w))
+  choose-next (read x to ∷ rest) h w o = record { move = _; given = refl; whose = refl; asked = ap (nextMove s p) h; allowed = n }
+  choose-next (write x from ∷ rest) h w o = record { move = _; given = refl; whose = refl; asked = ap (nextMove s p) h; allowed = refl }
+  choose-next (fence ∷ rest) h w o = record { move = _; given = refl; whose = refl; asked = ap (nextMove s p) h; allowed = rw w }
+  choose-next (lock ∷ rest) h w o = record {
+    move = _;
+    given = refl;
+    whose = refl;
+    asked = ap (nextMove s p) h;
+    allowed = and-true (free-to-take (s .holder) p rest n o) (rw w);
+  }
+  choose-next (unlock ∷ rest) h w o = record {
+    move = _;
+    given = refl;
+    whose = refl;
+    asked = ap (nextMove s p) h;
+    allowed = and-true (held-to-give (holds (s .holder) p) rest o) (rw w);
+  }
+  choose-next (local r v ∷ rest) h w o = record { move = _; given = refl; whose = refl; asked = ap (nextMove s p) h; allowed = refl }
+
+-- ---- so it is the finishing step
+
+-- the move, and its finishing step
+record Finisher (s : Machine) : Type 0 where
+  move : Move
+  given : finishingMove s ≡ some move
+  finishes : FinishingStep s (move .event) (move .after)
+
+chosen-allowed : (s : Machine) (p : ℕ) (o : Option Move) (c : Chosen s p o) → Allowed s (c .move .event) (c .move .after)
+chosen-allowed s p o c = step-allowed s _ _ (take-move s (c .move) (c .asked) (c .allowed))
+
+finisher : (s : Machine) → Orderly s → 0 < left s → Finisher s
+unfolding finishingMove drainOrNext
+finisher s o b = go (processor s p .waiting) refl
+  where
+    p : ℕ
+    p = mover (s .holder) (s .processors)
+
+    m : Mover s p
+    m = mover-moves s b
+
+    go : (ws : List WaitingWrite) → processor s p .waiting ≡ ws → Finisher s
+    go [] h =
+        let c = choose-next s p (mover-busy s p o m) (mover-free s p m) (processor s p .todo) refl h (o p) in
+        record {
+          move = c .move;
+          given = ap (drainOrNext s p) h ∙ c .given;
+          finishes = goesOn (subst (Mover s) (sym (c .whose)) m) (ap (λ (q : ℕ). processor s q .waiting) (c .whose) ∙ h) (chosen-allowed s p _ c);
+        }
+    go (w ∷ newer) h = record { move = _; given = ap (drainOrNext s p) h; finishes = drains m (Drain (notBlocked-true s p (mover-free s p m)) h) }
+
+-- nothing is ever stuck: with k above zero a step is allowed, and the finishing step is one
+pub never-stuck : (entries : List Entry) (es : List Event) (s : Machine) → Run (start entries) es s → 0 < left s → (e : Event) × (t : Machine) × FinishingStep s e t
+never-stuck entries es s r b = let f = finisher s (reached-orderly entries es s r) b in (f .move .event, f .move .after, f .finishes)
+
+pub finishing-allowed : (s : Machine) (e : Event) (t : Machine) → FinishingStep s e t → Allowed s e t
+finishing-allowed s e t (drains m a) = a
+finishing-allowed s e t (goesOn m w a) = a
+
+pub finishing-is-run : (es : List Event) (s u : Machine) → FinishingRun s es u → Run s es u × Finished u
+finishing-is-run [] s u r = r
+finishing-is-run (e ∷ es) s u r = let f = finishing-is-run es (r .0) u (r .2) in ((r .0, finishing-allowed s e (r .0) (r .1), f .0), f .1)
+
+-- ---- the function's steps are a finishing run
+
+pub finishing-next : (k : ℕ) (s : Machine) (m : Move) → finishingMove s ≡ some m → finishing (suc k) s ≡ m .event ∷ finishing k (m .after)
+unfolding finishing
+finishing-next k s m h = rw (h, finishing)
+
+abbrev Runs : ℕ → Machine → Type 0
+Runs k s = (u : Machine) × FinishingRun s (finishing k s) u
+
+runs-none : (s : Machine) → left s ≡ 0 → Runs 0 s
+unfolding finishing
+runs-none s h = (s, (refl, zero-finished s .0 h))
+
+runs-more : (k : ℕ) (s : Machine) → Orderly s → left s ≡ suc k → ((t : Machine) → Orderly t → left t ≡ k → Runs k t) → Runs (suc k) s
+runs-more k s o h ih =
+    let f : Finisher s = finisher s o (omega arith) in
+    let a : Allowed s (f .move .event) (f .move .after) = finishing-allowed s _ _ (f .finishes) in
+    let r : Runs k (f .move .after) = ih (f .move .after) (orderly-kept s _ _ a o) (suc-inj (sym (one-less s _ _ a) ∙ h)) in
+    (r .0, rw (finishing-next k s (f .move) (f .given)) (f .move .after, f .finishes, r .1))
+
+runs : (k : ℕ) (s : Machine) → Orderly s → left s ≡ k → Runs k s
+runs zero s o h = runs-none s h
+runs (suc k) s o h = runs-more k s o h (runs k)
+
+pub completion-runs : (entries : List Entry) (es : List Event) (s : Machine) → Run (start entries) es s → (u : Machine) × FinishingRun s (completion s) u
+unfolding completion
+completion-runs entries es s r = runs (left s) s (reached-orderly entries es s r) refl
+
+-- exactly k steps, each allowed in turn, after which the run is finished
+pub completion-completes : (entries : List Entry) (es : List Event) (s : Machine) → Run (start entries) es s → Completes s (left s) (completion s)
+completion-completes entries es s r =
+    let c = completion-runs entries es s r in
+    let f = finishing-is-run (completion s) s (c .0) (c .1) in
+    record { steps = finished-length (completion s) s (c .0) (f .0) (f .1); end = c .0; run = f .0; finished = f .1 }

@@ -1,0 +1,99 @@
+-- Numbers 1 to 11: a table and a trace are followed to the end, or stopped by the first test that does not pass.
+use mathlib.Core.Path.{_≡_, sym, ap, _∙_, subst}
+use mathlib.Core.Logic.{_↔_, _⊎_, inl, inr}
+use mathlib.Core.List.{List, [], _∷_, _++_}
+use Prim.Native.Nat.{ℕ, _+_, _/_}
+use native.Mathlib.Nat.{zero-add}
+use lib.ListN.{length}
+use Rattle.model.specs.Sizes.{recordSize}
+use Rattle.model.specs.Record.{records}
+use Rattle.model.specs.Kinds.{Entry}
+use Rattle.model.specs.Table.{Whole, Readable, start}
+use Rattle.model.specs.Machine.{Machine}
+use Rattle.model.specs.Rules.{Event}
+use Rattle.model.specs.Tests.{passed, refused, inOrder}
+use Rattle.model.specs.Reading.{readRecord, reading}
+use Rattle.model.specs.Calls.{takeRecord, following, tried}
+use Rattle.model.specs.Numbers.{Turns, Follows, Stops, tableLength, tableRecord, traceLength, traceRecord}
+use Rattle.model.proofs.Tests.{and-then-passed, and-then-refused, then-passed, then-refused}
+use Rattle.model.proofs.InOrder.{Earliest, in-order-at, file-whole, file-not-whole, file-passed, file-refused}
+use Rattle.model.proofs.Reading.{read-refused, read-refuses, reads, reads-back, readable-exactly}
+use Rattle.model.proofs.Following.{take-refused, take-turns, runs, runs-back}
+
+-- ---- the whole trace is a run from the table's start
+
+pub tried-follows : (table trace : List ℕ) (s : Machine) → (tried table trace ≡ passed s) ↔ Follows table trace (records trace) s
+unfolding tried following
+tried-follows table trace s = (
+  λ h. let a = and-then-passed (reading table) (λ es. following (start es) trace) s h in
+      let f = file-passed 8 takeRecord (start (a .0)) s trace (a .2) in
+      let r = runs 0 (start (a .0)) s (records trace) (f .1) in
+      record { entries = a .0; readable = readable-exactly table (a .0) .0 (a .1); whole = f .0; proper = r .0; run = r .1 },
+  λ f. then-passed (reading table) (λ es. following (start es) trace) (f .entries) (readable-exactly table (f .entries) .1 (f .readable))
+      ∙ file-whole 8 takeRecord (start (f .entries)) trace (f .whole) ∙ runs-back 0 (start (f .entries)) s (records trace) (f .proper) (f .run),
+)
+
+-- ---- or a test stops it
+
+table-stops : (table trace : List ℕ) (n i : ℕ) → reading table ≡ refused n i → Stops table trace n i
+unfolding reading
+table-stops table trace n i h = go (file-refused 1 readRecord [] table n i h)
+  where
+    go : (¬ Whole table × (1 ≡ n) × (length table / recordSize ≡ i)) ⊎ (Whole table × Earliest readRecord 0 [] (records table) n i) → Stops table trace n i
+    go (inl w) = subst (λ (m : ℕ). Stops table trace m i) (w .1) (subst (λ (j : ℕ). Stops table trace 1 j) (w .2) (tableLength (w .0)))
+    go (inr w) =
+        let e = w .1 in
+        let r = read-refused (0 + length (e .before)) (e .given) (e .r) n i (e .refuses) in
+        subst (λ (j : ℕ). Stops table trace n j) (sym (zero-add (length (e .before))) ∙ r .1)
+        (tableRecord (e .before) (w .0) (e .after, e .found) (reads 0 [] (e .given) (e .before) (e .passes)) (r .0))
+
+trace-stops : (table trace : List ℕ) (es : List Entry) (n i : ℕ) → Readable table es → following (start es) trace ≡ refused n i → Stops table trace n i
+unfolding following
+trace-stops table trace es n i readable h = go (file-refused 8 takeRecord (start es) trace n i h)
+  where
+    go : (¬ Whole trace × (8 ≡ n) × (length trace / recordSize ≡ i)) ⊎ (Whole trace × Earliest takeRecord 0 (start es) (records trace) n i) → Stops table trace n i
+    go (inl w) = subst (λ (m : ℕ). Stops table trace m i) (w .1) (subst (λ (j : ℕ). Stops table trace 8 j) (w .2) (traceLength es readable (w .0)))
+    go (inr w) =
+        let e = w .1 in
+        let t = take-refused (0 + length (e .before)) (e .given) (e .r) n i (e .refuses) in
+        let r = runs 0 (start es) (e .given) (e .before) (e .passes) in
+        subst (λ (j : ℕ). Stops table trace n j) (sym (zero-add (length (e .before))) ∙ t .1)
+        (traceRecord (e .before) (record { entries = es; readable = readable; whole = w .0; proper = r .0; run = r .1 }) (e .after, e .found) (t .0))
+
+stops-table : (table trace : List ℕ) (n i : ℕ) → reading table ≡ refused n i → tried table trace ≡ refused n i
+unfolding tried
+stops-table table trace n i h = then-refused (reading table) (λ es. following (start es) trace) n i h
+
+stops-trace : (table trace : List ℕ) (es : List Entry) (n i : ℕ) → Readable table es → following (start es) trace ≡ refused n i → tried table trace ≡ refused n i
+unfolding tried
+stops-trace table trace es n i r h = then-passed (reading table) (λ es. following (start es) trace) es (readable-exactly table es .1 r) ∙ h
+
+-- an event that is refused behind a run
+stops-event : (table trace : List ℕ) (before : List Event) (e : Event) (after : List Event) (s : Machine) (n : ℕ)
+    → records trace ≡ before ++ e ∷ after → (f : Follows table trace before s) → Turns s e n → following (start (f .entries)) trace ≡ refused n (length before)
+unfolding following
+stops-event table trace before e after s n found f t =
+    file-whole 8 takeRecord (start (f .entries)) trace (f .whole)
+    ∙ ap (inOrder takeRecord 0 (start (f .entries))) found
+    ∙ in-order-at takeRecord 0 (start (f .entries)) s before e after n (length before) (runs-back 0 (start (f .entries)) s before (f .proper) (f .run))
+    (ap (λ (k : ℕ). takeRecord k s e) (zero-add (length before)) ∙ take-turns (length before) s e n t)
+
+stopped-back : (table trace : List ℕ) (n i : ℕ) → Stops table trace n i → tried table trace ≡ refused n i
+unfolding reading following
+stopped-back table trace n i (tableLength w) = stops-table table trace 1 _ (file-not-whole 1 readRecord [] table w)
+stopped-back table trace n i (tableRecord {n = m} {entries = es} {r = r} before w b reads g) =
+    stops-table table trace m (length before)
+    (file-whole 1 readRecord [] table w ∙ ap (inOrder readRecord 0 []) (b .1)
+    ∙ in-order-at readRecord 0 [] es before r (b .0) m (length before) (reads-back 0 [] es before reads)
+    (ap (λ (k : ℕ). readRecord k es r) (zero-add (length before)) ∙ read-refuses (length before) es r m g))
+stopped-back table trace n i (traceLength es r w) = stops-trace table trace es 8 _ r (file-not-whole 8 takeRecord (start es) trace w)
+stopped-back table trace n i (traceRecord {n = m} {s = s} {e = e} before f b t) =
+    stops-trace table trace (f .entries) m (length before) (f .readable) (stops-event table trace before e (b .0) s m (b .1) f t)
+
+pub tried-stops : (table trace : List ℕ) (n i : ℕ) → (tried table trace ≡ refused n i) ↔ Stops table trace n i
+unfolding tried
+tried-stops table trace n i = (λ h. go (and-then-refused (reading table) (λ es. following (start es) trace) n i h), stopped-back table trace n i)
+  where
+    go : (reading table ≡ refused n i) ⊎ ((es : List Entry) × (reading table ≡ passed es) × (following (start es) trace ≡ refused n i)) → Stops table trace n i
+    go (inl h) = table-stops table trace n i h
+    go (inr a) = trace-stops table trace (a .0) n i (readable-exactly table (a .0) .0 (a .1)) (a .2)

@@ -1,0 +1,83 @@
+-- The events of a run of a table of bytes are proper records, and are read back from their bytes.
+use mathlib.Core.Path.{_≡_, refl, sym, ap, _∙_}
+use mathlib.Core.List.{List, [], _∷_}
+use Prim.Native.Nat.{ℕ, suc, _<_}
+use native.Mathlib.Omega.{arith}
+use lib.ListN.{length, getD, length-set}
+use Rattle.model.specs.Sizes.{processors, locations}
+use Rattle.model.specs.Lists.{All}
+use Rattle.model.specs.Fields.{Field, used, Proper}
+use Rattle.model.specs.Kinds.{Entry, stepUses}
+use Rattle.model.specs.Table.{Readable, start}
+use Rattle.model.specs.Machine.{Machine, processor, idle}
+use Rattle.model.specs.Rules.{Event, event, Allowed, Read, Write, Drain, Fence, Lock, Unlock, Local, Run}
+use Rattle.model.specs.Left.{leftOf}
+use Rattle.model.specs.Numbers.{AllProper}
+use Rattle.model.specs.Promises.{Bytes}
+use Rattle.model.proofs.Bools.{false-true}
+use Rattle.model.proofs.Lists.{there}
+use Rattle.model.proofs.Left.{moves}
+use Rattle.model.proofs.Runs.{run-keeps}
+use Rattle.model.proofs.Bytes.{Small}
+use Rattle.model.proofs.Sizes.{start-four}
+use Rattle.model.proofs.Fit.{MachineFits, event-fits, step-fits}
+use Rattle.model.proofs.FitStart.{table-fits}
+
+-- ---- the processor of a step is one of the four
+
+abbrev Four : Machine → Type 0
+Four s = length (s .processors) ≡ processors
+
+step-four : (s : Machine) (e : Event) (t : Machine) → Allowed s e t → Four s → Four t
+step-four s e t a f = let m = moves s e t a in ap length (m .placed) ∙ length-set (s .processors) (e .processor) (m .after) ∙ f
+
+its-processor : (s : Machine) (e : Event) (t : Machine) → Allowed s e t → Four s → e .processor < processors
+unfolding processor leftOf idle
+its-processor s e t a f =
+    let busy : ¬ (processor s (e .processor) ≡ idle) = λ i. let z : leftOf idle ≡ suc (leftOf (moves s e t a .after)) = ap leftOf (sym i) ∙ moves s e t a .less .steps in omega arith in
+    omega (arith, there (s .processors) (e .processor) busy)
+
+-- ---- its record is proper
+
+-- a read, a write or a drain
+of-memory : (k p x v : ℕ) → getD stepUses k [] ≡ Field.processor ∷ Field.location ∷ Field.value ∷ [] → 0 < k → k < length stepUses → p < processors → x < locations → Proper stepUses (event k p x v)
+unfolding used
+of-memory k p x v row a b c d = record {
+  known = (a, b);
+  inRange = record { processor = λ u. c; register = λ u. false-true (rw row at u); location = λ u. d };
+  unusedZero = record { processor = λ u. false-true (sym (rw row at u)); register = λ u. refl; location = λ u. false-true (sym (rw row at u)); value = λ u. false-true (sym (rw row at u)) };
+}
+
+-- a fence, a lock, an unlock, a local step
+of-processor : (k p : ℕ) → getD stepUses k [] ≡ Field.processor ∷ [] → 0 < k → k < length stepUses → p < processors → Proper stepUses (event k p 0 0)
+unfolding used
+of-processor k p row a b c = record {
+  known = (a, b);
+  inRange = record { processor = λ u. c; register = λ u. false-true (rw row at u); location = λ u. false-true (rw row at u) };
+  unusedZero = record { processor = λ u. false-true (sym (rw row at u)); register = λ u. refl; location = λ u. refl; value = λ u. refl };
+}
+
+event-proper : (s : Machine) (e : Event) (t : Machine) → Allowed s e t → e .processor < processors → e .location < locations → Proper stepUses e
+unfolding stepUses
+event-proper s e t (Read {p} {x} {v} h n u) a b = of-memory 1 p x v refl (omega arith) (omega arith) a b
+event-proper s e t (Write {p} {x} {v} h i) a b = of-memory 2 p x v refl (omega arith) (omega arith) a b
+event-proper s e t (Drain {p} {x} {v} n h) a b = of-memory 3 p x v refl (omega arith) (omega arith) a b
+event-proper s e t (Fence {p} h w) a b = of-processor 4 p refl (omega arith) (omega arith) a
+event-proper s e t (Lock {p} h f w) a b = of-processor 5 p refl (omega arith) (omega arith) a
+event-proper s e t (Unlock {p} h f w) a b = of-processor 6 p refl (omega arith) (omega arith) a
+event-proper s e t (Local {p} h) a b = of-processor 7 p refl (omega arith) (omega arith) a
+
+-- ---- so are all of a run
+
+run-proper : (es : List Event) (s u : Machine) → Run s es u → MachineFits s → Four s → AllProper es × All Small es
+run-proper [] s u r f g = (tt, tt)
+run-proper (e ∷ es) s u r f g =
+    let a = r .1 in
+    let fits = event-fits s e (r .0) a f in
+    let rest = run-proper es (r .0) u (r .2) (step-fits s e (r .0) a f) (step-four s e (r .0) a g) in
+    ((event-proper s e (r .0) a (its-processor s e (r .0) a g) (fits .location), rest .0), (fits .value, rest .1))
+
+pub later-proper : (table : List ℕ) (entries : List Entry) → Bytes table → Readable table entries
+    → (es fs : List Event) (s u : Machine) → Run (start entries) es s → Run s fs u → AllProper fs × All Small fs
+later-proper table entries b r es fs s u before after =
+    run-proper fs s u after (run-keeps MachineFits step-fits es (start entries) s before (table-fits table entries b r)) (run-keeps Four step-four es (start entries) s before (start-four entries))

@@ -1,0 +1,68 @@
+-- The calls as functions, for any table, trace and lent room: what code is proved to do.
+use mathlib.Core.Bool.{cond, _||_}
+use mathlib.Core.List.{List, [], _∷_, _++_}
+use Prim.Native.Nat.{ℕ, _*_}
+use lib.ListN.{length, drop}
+use lib.Dec.{leb}
+use Rattle.model.specs.declared.record.Record.{Record}
+use Rattle.model.specs.Sizes.{resultWords, recordSize}
+use Rattle.model.specs.Record.{records, fileOf}
+use Rattle.model.specs.Kinds.{stepUses}
+use Rattle.model.specs.Table.{start}
+use Rattle.model.specs.Machine.{Machine}
+use Rattle.model.specs.Step.{Stepped, took, turned, step}
+use Rattle.model.specs.Left.{left}
+use Rattle.model.specs.Finish.{isFinished, completion}
+use Rattle.model.specs.Reading.{reading}
+use Rattle.model.specs.Tests.{Test, test, first, unknown, tooLarge, notZero, Tested, passed, refused, andThen, unless, inFile}
+use Rattle.model.specs.Reply.{Reply, done, refuse, words}
+
+-- ---- following a trace
+
+unfoldable pub stepTests : Record → List Test
+unfolding stepUses unknown tooLarge notZero
+stepTests r = test 9 (unknown stepUses r) ∷ test 10 (tooLarge stepUses r || notZero stepUses r) ∷ []
+
+unfoldable pub atPlace : ℕ → Stepped → Tested Machine
+atPlace i (took t) = passed t
+atPlace i (turned n) = refused n i
+
+-- record i: tested 9, 10, and then by the rules
+unfoldable pub takeRecord : ℕ → Machine → Record → Tested Machine
+unfolding stepTests first unless atPlace step
+takeRecord i s r = unless (first (stepTests r)) i (atPlace i (step s r))
+
+unfoldable pub following : Machine → List ℕ → Tested Machine
+unfolding inFile takeRecord
+following s trace = inFile 8 takeRecord s trace
+
+-- ---- the replies
+
+-- the table is read, and the trace followed from its start
+unfoldable pub tried : List ℕ → List ℕ → Tested Machine
+unfolding reading start following andThen
+tried table trace = andThen (reading table) (λ entries. following (start entries) trace)
+
+unfoldable pub replied : List ℕ → Tested Machine → (Machine → Reply) → Reply
+replied room (passed s) f = f s
+replied room (refused n i) f = refuse n i room
+
+-- `needed` words or bytes are written; room past them keeps its contents
+unfoldable pub written : ℕ → ℕ → List ℕ → List ℕ → Reply
+written place needed contents room = cond (leb needed (length room)) (done place (contents ++ drop needed room)) (refuse 13 needed room)
+
+unfoldable pub checkedAt : List ℕ → List ℕ → Machine → Reply
+unfolding isFinished written words records
+checkedAt trace room s = let steps = length (records trace) in cond (isFinished s) (written steps resultWords (words s) room) (refuse 12 steps room)
+
+unfoldable pub checked : List ℕ → List ℕ → List ℕ → Reply
+unfolding tried replied checkedAt
+checked table trace room = replied room (tried table trace) (checkedAt trace room)
+
+unfoldable pub completedAt : List ℕ → Machine → Reply
+unfolding written left fileOf completion
+completedAt room s = written (left s) (recordSize * left s) (fileOf (completion s)) room
+
+unfoldable pub completed : List ℕ → List ℕ → List ℕ → Reply
+unfolding tried replied completedAt
+completed table trace room = replied room (tried table trace) (completedAt room)

@@ -1,0 +1,28 @@
+-- ---- document 01, in its order: what a reader must believe
+
+-- "Sizes"
+pub mod Sizes
+-- "Records"
+pub mod Record
+pub mod Fields
+pub mod Program
+pub mod Kinds
+-- "When a step is allowed"
+pub mod Lists
+pub mod Machine
+pub mod Rules
+pub mod Left
+-- "Numbers the caller gets"
+pub mod Table
+pub mod Reply
+pub mod Numbers
+-- ---- the same as functions, for code to be proved against; proofs/ shows that they agree
+pub mod Step
+pub mod Finish
+pub mod Tests
+pub mod Reading
+pub mod Calls
+-- ---- what follows: words of the theorems, and the sheet's worked lines
+pub mod Orderly
+pub mod Promises
+pub mod Sheet

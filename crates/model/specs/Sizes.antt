@@ -1,0 +1,25 @@
+-- Document 01, "Sizes". src/ has these numbers as associated constants, each beside the type it limits, and `limits` in src/table.rt proves them equal.
+use Prim.Native.Nat.{ℕ, _+_, _*_}
+
+abbrev pub processors : ℕ
+processors = 4
+
+abbrev pub registersEach : ℕ
+registersEach = 4
+
+abbrev pub locations : ℕ
+locations = 8
+
+abbrev pub instructionsEach : ℕ
+instructionsEach = 16
+
+abbrev pub resultWords : ℕ
+resultWords = processors * registersEach + locations
+
+-- the bytes of a record
+abbrev pub recordSize : ℕ
+recordSize = 8
+
+-- a value is below this, and a sum is taken modulo this
+abbrev pub values : ℕ
+values = 4294967296

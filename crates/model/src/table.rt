@@ -1,0 +1,55 @@
+// What a table gives: each processor's program, and the cells at the start.
+ghost use mathlib.Core.Path.{_≡_};
+ghost use mathlib.Core.List.{[], _∷_};
+ghost use Rattle.model.specs.Sizes.{processors, registersEach, locations, instructionsEach, resultWords, recordSize};
+use crate::record::Record;
+
+// The instructions as their table records give them, in columns: those of processor p at INSTRUCTIONS * p and on, counts[p] of them.
+pub struct Program {
+    pub kinds: [u8; Program::PLACES],
+    pub registers: [u8; Program::PLACES],
+    pub locations: [u8; Program::PLACES],
+    pub values: [u32; Program::PLACES],
+    pub counts: [usize; Program::PROCESSORS],
+}
+
+impl Program {
+    pub const PROCESSORS: usize = 4;
+
+    // Of one processor.
+    pub const INSTRUCTIONS: usize = 16;
+
+    pub const PLACES: usize = Self::PROCESSORS * Self::INSTRUCTIONS;
+}
+
+// The registers, processor by processor, and memory: what initial records set and a result reports.
+pub struct Cells {
+    pub registers: [u32; Cells::ALL_REGISTERS],
+    pub memory: [u32; Cells::LOCATIONS],
+}
+
+impl Cells {
+    // Of one processor.
+    pub const REGISTERS: usize = 4;
+
+    pub const LOCATIONS: usize = 8;
+
+    pub const ALL_REGISTERS: usize = Program::PROCESSORS * Self::REGISTERS;
+
+    // The words of a result.
+    pub const WORDS: usize = Self::ALL_REGISTERS + Self::LOCATIONS;
+}
+
+// The limits above are those of the definitions.
+pub fn limits() -> [usize; 6]
+    ensures { λ r. ⌜ r ≡ processors ∷ registersEach ∷ locations ∷ instructionsEach ∷ resultWords ∷ recordSize ∷ [] ⌝ }
+{
+    [
+        Program::PROCESSORS,
+        Cells::REGISTERS,
+        Cells::LOCATIONS,
+        Program::INSTRUCTIONS,
+        Cells::WORDS,
+        Record::BYTES,
+    ]
+}
