@@ -12,6 +12,17 @@ use Rattle.model.specs.Record.{valueOf, recordAt, recordsFrom, records, 
 use Rattle.model.specs.Table.{Whole}
 use Rattle.model.specs.Lists.{All}
 
+-- ---- how many records
+
+length-from : (bytes : List ℕ) (i n : ℕ) → length (recordsFrom bytes i n) ≡ n
+unfolding recordsFrom
+length-from bytes i zero = refl
+length-from bytes i (suc n) = ap suc (length-from bytes (suc i) n)
+
+pub length-records : (bytes : List ℕ) → length (records bytes) ≡ length bytes / recordSize
+unfolding records
+length-records bytes = length-from bytes 0 (length bytes / recordSize)
+
 -- ---- a value in four bytes
 
 low : (n : ℕ) → n ≡ n % 256 + n / 256 * 256

@@ -104,7 +104,7 @@ KindFits k = (p r x v : ℕ) → x < locations → v < values → EntryFits (k .
 kinds-fit : All KindFits tableKinds
 unfolding tableKinds
 kinds-fit = (
-  λ p r x v a b. tt,
+  λ p r x v a b. b,
   (λ p r x v a b. b, (λ p r x v a b. b, (λ p r x v a b. (a, b), (here, (here, (λ p r x v a b. b, (λ p r x v a b. tt, (here, (here, (here, (here, tt))))))))))),
 )
   where
@@ -115,7 +115,7 @@ entries-fit : (rs : List Record) → All (Proper tableUses) rs → All Small rs 
 unfolding entryOf
 entries-fit [] p s = tt
 entries-fit (r ∷ rs) p s = (
-  all-at KindFits tableKinds _ (r .kind) kinds-fit (λ p r x v a b. tt) (r .processor) (r .register) (r .location) (r .value) (proper-fields tableUses r (p .0) .2) (s .0),
+  all-at KindFits tableKinds _ (r .kind) kinds-fit (λ p r x v a b. b) (r .processor) (r .register) (r .location) (r .value) (proper-fields tableUses r (p .0) .2) (s .0),
   entries-fit rs (p .1) (s .1),
 )
 

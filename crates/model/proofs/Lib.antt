@@ -36,3 +36,7 @@ pub mod Answers
 pub mod Given
 pub mod Demands
 pub mod Completed
+-- ---- what the code's types stand for
+pub mod Verdicts
+pub mod Rows
+pub mod Columns

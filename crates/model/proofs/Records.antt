@@ -117,7 +117,7 @@ Ranged k = (p r x v : ℕ) → p < processors → r < registersEach → x < loca
 all-ranged : All Ranged tableKinds
 unfolding tableKinds
 all-ranged = (
-  owns,
+  λ p r x v a b c. c,
   (
     λ p r x v a b c. c,
     (λ p r x v a b c. (a, b), (owns, (owns, (owns, (owns, (owns, (owns, (owns, (owns, (owns, tt)))))))))),
@@ -129,7 +129,7 @@ all-ranged = (
 
 exists : (r : Record) → Proper tableUses r → Exists (entryOf r)
 unfolding entryOf
-exists r p = let f = proper-fields tableUses r p in all-at Ranged tableKinds _ (r .kind) all-ranged (λ p r x v a b c. a) (r .processor) (r .register) (r .location) (r .value) (f .0) (f .1) (f .2)
+exists r p = let f = proper-fields tableUses r p in all-at Ranged tableKinds _ (r .kind) all-ranged (λ p r x v a b c. c) (r .processor) (r .register) (r .location) (r .value) (f .0) (f .1) (f .2)
 
 all-exist : (rs : List Record) → All (Proper tableUses) rs → All Exists (map entryOf rs)
 all-exist [] p = tt

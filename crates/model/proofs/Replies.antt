@@ -15,7 +15,7 @@ use Rattle.model.specs.Left.{left, Finished, FinishingRun}
 use Rattle.model.specs.Finish.{isFinished, completion}
 use Rattle.model.specs.Tests.{Tested, passed, refused}
 use Rattle.model.specs.Reply.{Reply, done, refuse, words}
-use Rattle.model.specs.Calls.{written, tried, replied, checkedAt, checked, completedAt, completed}
+use Rattle.model.specs.Calls.{written, tried, replied, reported, checkedAt, checked, completedAt, completed}
 use Rattle.model.specs.Numbers.{Follows, Stops, Checks, Finishes}
 use Rattle.model.proofs.Left.{finished-test}
 use Rattle.model.proofs.Finish.{completion-runs}
@@ -74,15 +74,15 @@ is-not-finished s n = go (isFinished s) refl
     go false h = h
 
 check-finished : (trace room : List ℕ) (s : Machine) → Finished s → checkedAt trace room s ≡ written (length (records trace)) resultWords (words s) room
-unfolding checkedAt
+unfolding checkedAt reported
 check-finished trace room s f = rw (finished-test s .1 f)
 
 check-unfinished : (trace room : List ℕ) (s : Machine) → ¬ Finished s → checkedAt trace room s ≡ refuse 12 (length (records trace)) room
-unfolding checkedAt
+unfolding checkedAt reported
 check-unfinished trace room s n = rw (is-not-finished s n)
 
 checks-end : (table trace room : List ℕ) (s : Machine) → Follows table trace (records trace) s → Checks table trace room (checkedAt trace room s)
-unfolding checkedAt
+unfolding checkedAt reported
 checks-end table trace room s f = go (isFinished s) refl
   where
     go : (b : Bool) → isFinished s ≡ b → Checks table trace room (cond b (written (length (records trace)) resultWords (words s) room) (refuse 12 (length (records trace)) room))

@@ -14,7 +14,7 @@ use Rattle.model.specs.Finish.{isFinished, completion}
 use Rattle.model.specs.Kinds.{Entry}
 use Rattle.model.specs.Table.{start}
 use Rattle.model.specs.Reply.{refuse, words}
-use Rattle.model.specs.Calls.{written, checkedAt, checked, completedAt, completed}
+use Rattle.model.specs.Calls.{written, reported, checkedAt, checked, completedAt, completed}
 use Rattle.model.specs.Numbers.{Follows}
 use Rattle.model.specs.Promises.{Lent}
 use Rattle.model.proofs.Words.{reached-words, file-length}
@@ -35,7 +35,7 @@ written-lent place needed contents room e =
 -- ---- checking
 
 check-end : (table trace room : List ℕ) (s : Machine) → Follows table trace (records trace) s → Lent room (checkedAt trace room s)
-unfolding checkedAt
+unfolding checkedAt reported
 check-end table trace room s f = go (isFinished s)
   where
     go : (b : Bool) → Lent room (cond b (written (length (records trace)) resultWords (words s) room) (refuse 12 (length (records trace)) room))

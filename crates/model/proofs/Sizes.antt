@@ -48,7 +48,7 @@ module _ (m : Processor → ℕ) (c : ℕ) (M : Measure m c) where
 
 -- ---- the steps and the writes of an instruction
 
-writes-append : (l k : List ProgramStep) → writes (l ++ k) ≡ writes l + writes k
+pub writes-append : (l k : List ProgramStep) → writes (l ++ k) ≡ writes l + writes k
 unfolding writes
 writes-append [] k = omega arith
 writes-append (read x to ∷ l) k = writes-append l k
@@ -59,7 +59,7 @@ writes-append (unlock ∷ l) k = writes-append l k
 writes-append (local r v ∷ l) k = writes-append l k
 
 -- at most four steps, and at most one write
-weight : (i : Instruction) → (length (stepsOf i) ≤ 4) × (writes (stepsOf i) ≤ 1)
+pub weight : (i : Instruction) → (length (stepsOf i) ≤ 4) × (writes (stepsOf i) ≤ 1)
 unfolding stepsOf writes
 weight (storeConstant x v) = omega arith
 weight (storeRegister r x) = omega arith

@@ -51,9 +51,14 @@ replied room (refused n i) f = refuse n i room
 unfoldable pub written : ℕ → ℕ → List ℕ → List ℕ → Reply
 written place needed contents room = cond (leb needed (length room)) (done place (contents ++ drop needed room)) (refuse 13 needed room)
 
+-- a trace of so many steps leads to s
+unfoldable pub reported : ℕ → List ℕ → Machine → Reply
+unfolding isFinished written words
+reported steps room s = cond (isFinished s) (written steps resultWords (words s) room) (refuse 12 steps room)
+
 unfoldable pub checkedAt : List ℕ → List ℕ → Machine → Reply
-unfolding isFinished written words records
-checkedAt trace room s = let steps = length (records trace) in cond (isFinished s) (written steps resultWords (words s) room) (refuse 12 steps room)
+unfolding reported records
+checkedAt trace room s = reported (length (records trace)) room s
 
 unfoldable pub checked : List ℕ → List ℕ → List ℕ → Reply
 unfolding tried replied checkedAt

@@ -23,7 +23,7 @@ kind uses means = record { uses = uses; means = means }
 
 -- 0 is no kind, and no record of it is ever entered
 abbrev none : Kind
-none = kind [] (λ p r x v. instruction p mfence)
+none = kind [] (λ p r x v. initialMemory x v)
 
 unfoldable pub tableKinds : List Kind
 tableKinds =
@@ -40,6 +40,10 @@ tableKinds =
     ∷ kind (processor ∷ register ∷ location ∷ []) (λ p r x v. instruction p (exchangeAdd r x))  -- 10
     ∷ kind (processor ∷ register ∷ location ∷ []) (λ p r x v. instruction p (lockedExchangeAdd r x))  -- 11
     ∷ []
+
+-- how many rows these are
+abbrev pub tableRows : ℕ
+tableRows = 12
 
 unfoldable pub tableUses : List (List Field)
 unfolding tableKinds

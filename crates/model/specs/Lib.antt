@@ -22,6 +22,8 @@ pub mod Finish
 pub mod Tests
 pub mod Reading
 pub mod Calls
+-- ---- what the code's types stand for
+pub mod Code
 -- ---- what follows: words of the theorems, and the sheet's worked lines
 pub mod Orderly
 pub mod Promises

@@ -48,11 +48,13 @@ crowded before (initialMemory x v) = false
 crowded before (initialRegister p r v) = false
 crowded before (instruction p i) = leb instructionsEach (instructionsOf p before)
 
+-- of the record by itself
+abbrev pub ownTests : Record → List Test
+ownTests r = test 2 (unknown tableUses r) ∷ test 3 (tooLarge tableUses r) ∷ test 4 (notZero tableUses r) ∷ []
+
 unfoldable pub tableTests : List Entry → Record → List Test
 unfolding tableUses unknown tooLarge notZero entryOf late again crowded
-tableTests before r =
-    test 2 (unknown tableUses r) ∷ test 3 (tooLarge tableUses r) ∷ test 4 (notZero tableUses r)
-    ∷ test 5 (late before (entryOf r)) ∷ test 6 (again before (entryOf r)) ∷ test 7 (crowded before (entryOf r)) ∷ []
+tableTests before r = ownTests r ++ (test 5 (late before (entryOf r)) ∷ test 6 (again before (entryOf r)) ∷ test 7 (crowded before (entryOf r)) ∷ [])
 
 -- ---- the reading
 

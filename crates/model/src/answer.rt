@@ -20,3 +20,9 @@ pub enum Answer {
     Done(usize),
     Refused(Refusal, usize),
 }
+
+// What is tested may go on, or is refused: why, and the place.
+pub enum Verdict {
+    Passed,
+    Refused(Refusal, usize),
+}

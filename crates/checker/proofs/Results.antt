@@ -1,0 +1,70 @@
+-- The reply to a check, from where the trace leads.
+use mathlib.Core.Path.{_≡_, sym, ap, _∙_}
+use mathlib.Core.Bool.{Bool, true, false, not}
+use mathlib.Core.List.{List, _++_}
+use Prim.Native.Nat.{ℕ, _+_, _/_, _≤_, _<_}
+use native.Mathlib.Omega.{arith}
+use lib.ListN.{length, drop}
+use lib.Seq.{paste, take-all, take-at, drop-append-add, drop-drop}
+use borrow.Author.Tests.{le-leb, lt-leb, not-true, not-false}
+use Rattle.model.specs.declared.answer.Refusal.{Refusal}
+use Rattle.model.specs.declared.answer.Verdict.{Verdict}
+use Rattle.model.specs.declared.answer.Verdict.the-variants.{Passed, Refused}
+use Rattle.model.specs.declared.table.Program.{Program}
+use Rattle.model.specs.Tests.{passed, refused}
+use Rattle.model.specs.Finish.{isFinished}
+use Rattle.model.specs.Reply.{Reply, done, refuse, numberOf}
+use Rattle.model.specs.Calls.{tried, replied, written, reported, checkedAt, checked}
+use Rattle.model.specs.Code.{testedOf}
+use Rattle.model.proofs.Bytes.{length-records}
+use Rattle.machine.specs.declared.state.Machine.{Machine}
+use Rattle.machine.specs.View.{machineOf}
+use Rattle.machine.specs.Ready.{Ready}
+use Rattle.machine.proofs.Ends.{words-are}
+use Rattle.checker.specs.declared.tried.Tried.{Tried}
+use Rattle.checker.specs.Tries.{Tries}
+
+-- ---- the two copies
+
+copies : (r w d : List ℕ) → length r ≡ 16 → length w ≡ 8 → 24 ≤ length d → paste (paste d 0 r (length r)) 16 w (length w) ≡ (r ++ w) ++ drop 24 d
+copies r w d hr hw hd =
+    rw (hr, hw, take-all 16 r (omega arith), take-all 8 w (omega arith)) (λ j. take-at r (drop 16 d) 16 hr j ++ w ++ past j)
+  where
+    past : drop 24 (r ++ drop 16 d) ≡ drop 24 d
+    past = ap (λ (n : ℕ). drop (n + 8) (r ++ drop 16 d)) (sym hr) ∙ drop-append-add r (drop 16 d) 8 ∙ drop-drop 8 16 d
+
+-- ---- 12, 13, 0
+
+module _ (g : Program) (m : Machine) (ready : Ready g m) (steps : ℕ) (room : List ℕ) (f : Bool) (finished : f ≡ isFinished (machineOf g m)) where
+  pub unfinished : not f ≡ true → refuse 12 steps room ≡ reported steps room (machineOf g m)
+  unfolding reported
+  unfinished n = rw (sym finished ∙ not-true f n)
+
+  pub too-small : not f ≡ false → length room < 24 → refuse 13 24 room ≡ reported steps room (machineOf g m)
+  unfolding reported written
+  too-small n l = rw (sym finished ∙ not-false f n, lt-leb 24 (length room) l)
+
+  pub reports : not f ≡ false → 24 ≤ length room → (a b : List ℕ) → a ≡ paste room 0 (m .registers) (length (m .registers)) → b ≡ paste a 16 (m .memory) (length (m .memory))
+      → done steps b ≡ reported steps room (machineOf g m)
+  unfolding reported written
+  reports n l a b ea eb =
+      rw (sym finished ∙ not-false f n, le-leb 24 (length room) l)
+      (ap (done steps) (
+      eb ∙ ap (λ (c : List ℕ). paste c 16 (m .memory) (length (m .memory))) ea ∙ copies (m .registers) (m .memory) room (ready .long .registers) (ready .long .memory) l
+      ∙ ap (λ (c : List ℕ). c ++ drop 24 room) (sym (words-are g m ready))
+      ))
+
+-- ---- the whole check
+
+module _ (table trace room : List ℕ) (t : Tried) (tries : Tries table trace t) where
+  pub refuses : (why : Refusal) (place : ℕ) → t .verdict ≡ Refused why place → refuse (numberOf why) place room ≡ checked table trace room
+  unfolding checked replied
+  refuses why place e =
+      let r : tried table trace ≡ refused (numberOf why) place = sym (tries .says) ∙ ap (λ (v : Verdict). testedOf v (machineOf (t .program) (t .machine))) e in
+      rw r
+
+  pub replies : t .verdict ≡ Passed → (r : Reply) → r ≡ reported (length trace / 8) room (machineOf (t .program) (t .machine)) → r ≡ checked table trace room
+  unfolding checked replied checkedAt reported
+  replies e r f =
+      let p : tried table trace ≡ passed (machineOf (t .program) (t .machine)) = sym (tries .says) ∙ ap (λ (v : Verdict). testedOf v (machineOf (t .program) (t .machine))) e in
+      f ∙ rw (p, length-records trace)

@@ -1,0 +1,47 @@
+// The fields of a trace record (document 01, numbers 9 and 10).
+ghost use mathlib.Core.Path.{_≡_};
+ghost use Prim.Native.Nat.{_<_};
+ghost use Rattle.model.specs.Calls.{stepTests};
+ghost use Rattle.model.specs.Code.{Gives};
+ghost use Rattle.model.specs.Kinds.{stepUses};
+ghost use Rattle.record.specs.Fields.{rowOf};
+use model::answer::Refusal;
+use model::answer::Verdict;
+use model::record::Record;
+use record::fields;
+
+const ROWS: usize = 8;
+
+// Does a kind of step use processor, register, location, value?
+const USES: [[bool; 4]; ROWS] = [
+    [false, false, false, false], // 0 no kind
+    [true, false, true, true], // 1 read
+    [true, false, true, true], // 2 write
+    [true, false, true, true], // 3 drain
+    [true, false, false, false], // 4 fence
+    [true, false, false, false], // 5 lock
+    [true, false, false, false], // 6 unlock
+    [true, false, false, false], // 7 local
+];
+
+fn used_by(kind: u8) -> [bool; 4]
+    requires { do ⌜ kind < (← ⟦ROWS⟧) ⌝ }
+    ensures { λ u. ⌜ u ≡ rowOf stepUses kind ⌝ }
+{
+    let k = kind as usize;
+    USES[k]
+}
+
+// Tests 9, 10 of record i.
+pub fn misread(i: usize, e: Record) -> Verdict
+    ensures { λ v. ⌜ Gives v (stepTests e) i ⌝ }
+{
+    if fields::unknown(ROWS, e) {
+        return Verdict::Refused(Refusal::StepKind, i);
+    }
+    let used = used_by(e.kind);
+    if fields::too_large(used, e) | fields::not_zero(used, e) {
+        return Verdict::Refused(Refusal::StepField, i);
+    }
+    Verdict::Passed
+}

@@ -1,0 +1,69 @@
+-- The run is finished when the code says so, and its result is in the arrays.
+use mathlib.Core.Path.{_≡_, refl, sym, ap, _∙_}
+use mathlib.Core.Bool.{Bool, true, false, _&&_}
+use mathlib.Core.List.{List, _++_}
+use Prim.Native.Nat.{ℕ, _<_}
+use native.Mathlib.Omega.{arith}
+use lib.ListN.{getD}
+use lib.Dec.{eqb, lit<}
+use borrow.Author.Tests.{eqb-true, eqb-false}
+use Rattle.model.specs.declared.table.Program.{Program}
+use Rattle.model.specs.Sizes.{processors}
+use Rattle.model.specs.Step.{isEmpty}
+use Rattle.model.specs.Reply.{registersIn, words}
+use Rattle.model.specs.Finish.{isDone, areDone, isFinished}
+use Rattle.model.specs.Code.{countIn}
+use Rattle.model.proofs.Rows.{rows-whole}
+use Rattle.machine.specs.declared.state.Machine.{Machine}
+use Rattle.machine.specs.View.{todoIn, processorOf, machineOf}
+use Rattle.machine.specs.Arrays.{doneIn}
+use Rattle.machine.specs.Ready.{ReadyAt, Ready}
+use Rattle.machine.proofs.Todo.{none-left, next-left}
+use Rattle.machine.proofs.Logs.{waits-none}
+
+module _ (g : Program) (m : Machine) (ready : Ready g m) where
+  abbrev done : ℕ → Bool
+  done p = doneIn (getD (m .at) p 0) (countIn g p) (getD (m .drained) p 0) (getD (m .issued) p 0)
+
+  at-end : (p : ℕ) → p < processors → isEmpty (todoIn g m p) ≡ eqb (getD (m .at) p 0) (countIn g p)
+  unfolding isEmpty todoIn
+  at-end p h = go (eqb a (countIn g p)) refl
+    where
+      a : ℕ
+      a = getD (m .at) p 0
+
+      r : ReadyAt g m p
+      r = ready .each p h
+
+      go : (b : Bool) → eqb a (countIn g p) ≡ b → isEmpty (todoIn g m p) ≡ b
+      go true e = let z = eqb-true a (countIn g p) e in rw (none-left g p a (getD (m .phase) p 0) (omega arith))
+      go false e =
+          let n = eqb-false a (countIn g p) e in
+          let o = r .at in
+          let l : a < countIn g p = omega arith in
+          rw (next-left g p a (getD (m .phase) p 0) (ready .fits .each p a h l .high) l (r .inside l))
+
+  done-is : (p : ℕ) → p < processors → isDone (processorOf g m p) ≡ done p
+  unfolding isDone processorOf
+  done-is p h =
+      let r = ready .each p h in
+      let w = r .room in
+      λ j. at-end p h j && waits-none m p h (ready .long) (r .order) (omega arith) j
+
+  four-and : (a b c d : Bool) → (a && b && c && d) ≡ (a && (b && (c && (d && true))))
+  four-and true true true true = refl
+  four-and true true true false = refl
+  four-and true true false d = refl
+  four-and true false c d = refl
+  four-and false b c d = refl
+
+  pub finished-is : (a b c d : Bool) → a ≡ done 0 → b ≡ done 1 → c ≡ done 2 → d ≡ done 3 → (a && b && c && d) ≡ isFinished (machineOf g m)
+  unfolding isFinished machineOf areDone
+  finished-is a b c d ea eb ec ed =
+      four-and a b c d
+      ∙ (λ j. (ea ∙ sym (done-is 0 (lit< tt))) j && ((eb ∙ sym (done-is 1 (lit< tt))) j && ((ec ∙ sym (done-is 2 (lit< tt))) j && ((ed ∙ sym (done-is 3 (lit< tt))) j && true))))
+
+  -- the words of a result
+  pub words-are : words (machineOf g m) ≡ m .registers ++ m .memory
+  unfolding words machineOf registersIn processorOf
+  words-are = ap (λ (l : List ℕ). l ++ m .memory) (rows-whole (m .registers) (ready .long .registers))

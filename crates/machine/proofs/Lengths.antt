@@ -1,0 +1,62 @@
+-- No store changes the length of an array.
+use mathlib.Core.Path.{_≡_, _∙_}
+use mathlib.Core.Bool.{Bool, true, false, cond}
+use mathlib.Core.List.{List}
+use Prim.Native.Nat.{ℕ, _*_}
+use lib.ListN.{length, set, length-set}
+use Rattle.model.specs.declared.record.Record.{Record}
+use Rattle.model.specs.Sizes.{processors, registersEach, locations, instructionsEach}
+use Rattle.model.specs.Rules.{Event}
+use Rattle.machine.specs.declared.state.Machine.{Machine}
+use Rattle.machine.specs.Arrays.{parts}
+use Rattle.machine.specs.Stores.{isLast, advancedIn, drainedIn}
+use Rattle.machine.specs.Ready.{Long}
+
+pub set-long : (xs : List ℕ) (k x n : ℕ) → length xs ≡ n → length (set xs k x) ≡ n
+set-long xs k x n h = length-set xs k x ∙ h
+
+pub either-long : (b : Bool) (xs ys : List ℕ) (n : ℕ) → length xs ≡ n → length ys ≡ n → length (cond b xs ys) ≡ n
+either-long true xs ys n h k = h
+either-long false xs ys n h k = k
+
+module _ (m : Machine) (l : Long m) where
+  pub stored-long : (registers kept locations values issued : List ℕ) (holder : ℕ) → length registers ≡ processors * registersEach → length kept ≡ processors
+      → length locations ≡ processors * instructionsEach → length values ≡ processors * instructionsEach → length issued ≡ processors
+      → Long (parts registers (m .memory) kept (m .at) (m .phase) locations values issued (m .drained) holder)
+  stored-long registers kept locations values issued holder r k x v n = record {
+    registers = r;
+    memory = l .memory;
+    kept = k;
+    at = l .at;
+    phase = l .phase;
+    xs = x;
+    vs = v;
+    issued = n;
+    drained = l .drained;
+  }
+
+  pub advanced-long : (i : Record) → Long (advancedIn m i)
+  advanced-long i = record {
+    registers = l .registers;
+    memory = l .memory;
+    kept = l .kept;
+    at = either-long (isLast (m .phase) i) _ _ processors (set-long (m .at) _ _ processors (l .at)) (l .at);
+    phase = set-long (m .phase) _ _ processors (l .phase);
+    xs = l .xs;
+    vs = l .vs;
+    issued = l .issued;
+    drained = l .drained;
+  }
+
+  pub drained-long : (e : Event) → Long (drainedIn m e)
+  drained-long e = record {
+    registers = l .registers;
+    memory = set-long (m .memory) _ _ 8 (l .memory);
+    kept = l .kept;
+    at = l .at;
+    phase = l .phase;
+    xs = l .xs;
+    vs = l .vs;
+    issued = l .issued;
+    drained = set-long (m .drained) _ _ processors (l .drained);
+  }

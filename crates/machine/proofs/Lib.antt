@@ -1,0 +1,17 @@
+-- ---- what the arrays stand for
+pub mod Todo
+pub mod Logs
+pub mod Locks
+pub mod Changes
+-- ---- one step is the machine's
+pub mod Moves
+pub mod Sim
+-- ---- and keeps what holds of the arrays
+pub mod Lengths
+pub mod Keeps
+pub mod Taken
+-- ---- the code's functions
+pub mod Stores
+pub mod Taking
+pub mod Starts
+pub mod Ends

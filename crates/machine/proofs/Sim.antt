@@ -1,0 +1,144 @@
+-- A step of the arrays is a step of the machine that they stand for.
+use mathlib.Core.Path.{_≡_, refl, sym, ap, _∙_}
+use mathlib.Core.Bool.{Bool, true, false, cond, _&&_}
+use mathlib.Core.Option.{none}
+use mathlib.Core.List.{List, [], _∷_}
+use Prim.Native.Nat.{ℕ, _+_, _≤_, _<_}
+use native.Mathlib.Omega.{arith}
+use lib.ListN.{getD}
+use lib.Seq.{getD-set-same}
+use lib.Dec.{eqb, ltb}
+use borrow.Author.Tests.{eqb-true, ne-eqb, ltb-true, ltb-false, lt-ltb, le-ltb}
+use Rattle.model.specs.declared.record.Record.{Record}
+use Rattle.model.specs.declared.table.Program.{Program}
+use Rattle.model.specs.Program.{ProgramStep}
+use Rattle.model.specs.Sizes.{processors}
+use Rattle.model.specs.Kinds.{tableRows}
+use Rattle.model.specs.Machine as model
+use Rattle.model.specs.Machine.{Processor, processor}
+use Rattle.model.specs.Rules.{Event, event}
+use Rattle.model.specs.Step.{move, took, turned, drainMove, nextMove, moveFor, judge, same, step}
+use Rattle.model.specs.Code.{instructionAt, countIn}
+use Rattle.machine.specs.declared.state.Machine.{Machine}
+use Rattle.machine.specs.View.{todoIn, processorOf, machineOf}
+use Rattle.rules.specs.Steps.{stepsOfKind, stepKind, stepCount}
+use Rattle.rules.specs.Programs.{fetched, Fetched}
+use Rattle.rules.specs.Guards.{permits}
+use Rattle.rules.specs.Offers.{nextIn, offeredIn}
+use Rattle.machine.specs.Arrays.{oldestOf, nextOf, offeredOf, isDry}
+use Rattle.machine.specs.Stores.{isLast, advancedIn, afterEvent}
+use Rattle.machine.specs.Ready.{Own, ReadyAt, Ready}
+use Rattle.machine.proofs.Todo.{stepFor, restAt, none-left, next-left, rest-left}
+use Rattle.machine.proofs.Changes.{processor-is, at-next}
+use Rattle.machine.proofs.Moves.{offer, oldest-offer, offers}
+
+unlike : (e o : Event) → ¬ (e .kind ≡ o .kind) → same e o ≡ false
+unfolding same
+unlike e o n = rw (ne-eqb (e .kind) (o .kind) n)
+
+module _ (g : Program) (m : Machine) (ready : Ready g m) (i : Record) (here : Fetched g (i .processor) (getD (m .at) (i .processor) 0) i) (h : i .processor < processors) where
+  abbrev p : ℕ
+  p = i .processor
+
+  abbrev a : ℕ
+  a = getD (m .at) p 0
+
+  abbrev f : ℕ
+  f = getD (m .phase) p 0
+
+  abbrev M : model.Machine
+  M = machineOf g m
+
+  own : Own i
+  own = record { processor = h; register = here .register }
+
+  at : ReadyAt g m p
+  at = ready .each p h
+
+  todo-is : processor M p .todo ≡ todoIn g m p
+  unfolding processorOf
+  todo-is = ap (λ (P : Processor). P .todo) (processor-is g m p h)
+
+  -- ---- inside the program
+
+  pub is-instruction : a < countIn g p → i ≡ instructionAt g p a
+  unfolding fetched
+  is-instruction l = here .here ∙ rw (lt-ltb a (countIn g p) l)
+
+  module _ (l : a < countIn g p) where
+    kind-is : i .kind ≡ instructionAt g p a .kind
+    kind-is = ap (λ (r : Record). r .kind) (is-instruction l)
+
+    high : instructionAt g p a .kind < tableRows
+    high = rw (sym kind-is) (here .kind)
+
+    abbrev pub rest : List ProgramStep
+    rest = restAt g p a f
+
+    pub todo-next : todoIn g m p ≡ stepFor i (stepKind (i .kind) f) ∷ rest
+    unfolding todoIn
+    todo-next = next-left g p a f high l (at .inside l) ∙ (λ j. stepFor (sym (is-instruction l) j) (stepKind (sym kind-is j) f) ∷ rest)
+
+    pub goes-on : (o : Machine) → o .at ≡ m .at → o .phase ≡ m .phase → todoIn g (advancedIn o i) p ≡ rest
+    unfolding todoIn
+    goes-on o ea ef =
+        rw (
+          ea,
+          ef,
+          at-next g (m .at) (m .phase) i (rw (ready .long .at) h),
+          getD-set-same (m .phase) p (cond (isLast (m .phase) i) 0 (f + 1)) 0 (rw (ready .long .phase) h),
+        )
+        (rest-left g p a f high l (at .inside l) (isLast (m .phase) i) (ap (λ (k : ℕ). eqb (f + 1) (stepCount k)) (sym kind-is)))
+
+  -- ---- past its end
+
+  past : countIn g p ≤ a → todoIn g m p ≡ []
+  unfolding todoIn
+  past l = none-left g p a f l
+
+  pub is-none : countIn g p ≤ a → i ≡ event 0 p 0 0
+  unfolding fetched
+  is-none l = here .here ∙ rw (le-ltb a (countIn g p) l)
+
+  none-offered : countIn g p ≤ a → nextMove M p [] ≡ offer g m i (nextOf m i (stepKind (i .kind) f))
+  unfolding nextMove nextIn stepKind stepsOfKind
+  none-offered l = let z : i .kind ≡ 0 = ap (λ (r : Record). r .kind) (is-none l) in rw z
+
+  -- ---- the program step offered, or none
+
+  pub next-offer : nextMove M p (processor M p .todo) ≡ offer g m i (nextOf m i (stepKind (i .kind) f))
+  next-offer = rw todo-is (go (ltb a (countIn g p)) refl)
+    where
+      go : (b : Bool) → ltb a (countIn g p) ≡ b → nextMove M p (todoIn g m p) ≡ offer g m i (nextOf m i (stepKind (i .kind) f))
+      go true e =
+          let l = ltb-true a (countIn g p) e in
+          ap (nextMove M p) (todo-next l)
+          ∙ offers g m ready i own (here .kind) (rest l) (goes-on l) (i .kind) f (here .kind) (rw (kind-is l) (at .inside l)) (todo-next l)
+      go false e = ap (nextMove M p) (past (ltb-false a (countIn g p) e)) ∙ none-offered (ltb-false a (countIn g p) e)
+
+  -- ---- the step
+
+  abbrev pub allowed : Event → Event → Bool
+  allowed e o = same e o && permits (o .kind) (m .holder) p (isDry m i)
+
+  pub judged : (e o : Event) → 0 < e .kind → judge e (offer g m i o) ≡ cond (allowed e o) (took (machineOf g (afterEvent m i o))) (turned 11)
+  unfolding judge
+  judged e o k = go (eqb (o .kind) 0) refl
+    where
+      go : (b : Bool) → eqb (o .kind) 0 ≡ b → judge e (cond b none (move o (permits (o .kind) (m .holder) p (isDry m i)) (machineOf g (afterEvent m i o))))
+          ≡ cond (allowed e o) (took (machineOf g (afterEvent m i o))) (turned 11)
+      go true z = rw (unlike e o (λ q. omega (arith, eqb-true (o .kind) 0 z, q)))
+      go false z = refl
+
+  pub move-is : (e : Event) → e .processor ≡ p → moveFor M e ≡ offer g m i (offeredOf m i (e .kind))
+  unfolding moveFor offeredIn
+  move-is e q = (λ j. cond (eqb (e .kind) 3) (drainMove M (q j) (processor M (q j) .waiting)) (nextMove M (q j) (processor M (q j) .todo))) ∙ go (eqb (e .kind) 3)
+    where
+      go : (b : Bool) → cond b (drainMove M p (processor M p .waiting)) (nextMove M p (processor M p .todo)) ≡ offer g m i (cond b (oldestOf m i) (nextOf m i (stepKind (i .kind) f)))
+      go true = oldest-offer g m ready i own (here .kind)
+      go false = next-offer
+
+  pub step-is : (e : Event) → 0 < e .kind → e .processor ≡ p
+      → step M e ≡ cond (allowed e (offeredOf m i (e .kind))) (took (machineOf g (afterEvent m i (offeredOf m i (e .kind))))) (turned 11)
+  unfolding step
+  step-is e k q = ap (judge e) (move-is e q) ∙ judged e (offeredOf m i (e .kind)) k

@@ -1,0 +1,65 @@
+-- A state as its arrays. i is the instruction that a processor stands at.
+use mathlib.Core.Bool.{Bool, _&&_}
+use mathlib.Core.List.{List}
+use Prim.Native.Nat.{ℕ, _+_, _*_}
+use lib.ListN.{getD, replicate}
+use lib.Dec.{eqb}
+use Rattle.model.specs.declared.record.Record.{Record}
+use Rattle.model.specs.declared.table.Cells.{Cells}
+use Rattle.model.specs.Sizes.{processors, registersEach, instructionsEach}
+use Rattle.model.specs.Rules.{Event}
+use Rattle.rules.specs.Offers.{oldestIn, nextIn, offeredIn}
+use Rattle.rules.specs.Guards.{nobody}
+use Rattle.machine.specs.declared.state.Machine.{Machine}
+
+abbrev pub parts : (registers memory kept at phase locations values issued drained : List ℕ) (holder : ℕ) → Machine
+parts registers memory kept at phase locations values issued drained holder = record {
+  registers = registers;
+  memory = memory;
+  kept = kept;
+  at = at;
+  phase = phase;
+  locations = locations;
+  values = values;
+  issued = issued;
+  drained = drained;
+  holder = holder;
+}
+
+-- nothing taken, nothing waiting, the lock free
+abbrev pub startIn : Cells → Machine
+startIn c =
+    let zeros : List ℕ = replicate processors 0 in
+    let log : List ℕ = replicate (processors * instructionsEach) 0 in
+    parts (c .registers) (c .memory) zeros zeros zeros log log zeros zeros nobody
+
+-- processor at instruction `at` of `count`, of whose `issued` writes `drained` are drained
+abbrev pub doneIn : (at count drained issued : ℕ) → Bool
+doneIn at count drained issued = eqb at count && eqb drained issued
+
+-- ---- the step that a processor can come to in it
+
+abbrev pub issuedNow : Machine → Record → ℕ
+issuedNow m i = getD (m .issued) (i .processor) 0
+
+abbrev pub drainedNow : Machine → Record → ℕ
+drainedNow m i = getD (m .drained) (i .processor) 0
+
+abbrev pub isDry : Machine → Record → Bool
+isDry m i = eqb (drainedNow m i) (issuedNow m i)
+
+abbrev pub registerOf : Record → ℕ
+registerOf i = registersEach * i .processor + i .register
+
+abbrev pub oldestOf : Machine → Record → Event
+oldestOf m i = oldestIn (m .locations) (m .values) (issuedNow m i) (drainedNow m i) (i .processor)
+
+abbrev pub nextOf : Machine → Record → ℕ → Event
+nextOf m i k =
+    nextIn (m .locations) (m .values) (issuedNow m i) (drainedNow m i) (getD (m .kept) (i .processor) 0) (getD (m .registers) (registerOf i) 0)
+    (getD (m .memory) (i .location) 0) i k
+
+abbrev pub offeredOf : Machine → Record → ℕ → Event
+offeredOf m i k =
+    offeredIn (m .locations) (m .values) (issuedNow m i) (drainedNow m i) (getD (m .kept) (i .processor) 0) (getD (m .registers) (registerOf i) 0)
+    (getD (m .memory) (i .location) 0) i (getD (m .phase) (i .processor) 0) k

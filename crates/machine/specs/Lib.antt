@@ -1,0 +1,4 @@
+pub mod View
+pub mod Arrays
+pub mod Stores
+pub mod Ready

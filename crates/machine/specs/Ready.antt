@@ -1,0 +1,93 @@
+-- What holds of the arrays at every step, and what a step promises.
+use mathlib.Core.Path.{_≡_}
+use mathlib.Core.List.{List}
+use Prim.Native.Nat.{ℕ, _+_, _*_, _≤_, _<_}
+use mathlib.Core.Bool.{Bool, true, false}
+use lib.ListN.{length, getD}
+use Rattle.model.specs.declared.record.Record.{Record}
+use Rattle.model.specs.Sizes.{processors, registersEach, locations, instructionsEach}
+use Rattle.model.specs.Kinds.{tableRows}
+use Rattle.model.specs.declared.table.Program.{Program}
+use Rattle.model.specs.Machine as model
+use Rattle.model.specs.Left.{writes}
+use Rattle.model.specs.Step.{Stepped, took, turned, step}
+use Rattle.model.specs.Code.{instructionAt, countIn, Fits}
+use Rattle.model.specs.Rules.{Event}
+use Rattle.machine.specs.declared.state.Machine.{Machine}
+use Rattle.rules.specs.Steps.{phases, stepCount}
+use Rattle.machine.specs.View.{todoIn, machineOf}
+
+-- an instruction's own register
+pub record Own (i : Record) : Type 0 where
+  pub processor : i .processor < processors
+  pub register : i .register < registersEach
+
+-- there is room for a write
+pub record Issuable (issued : List ℕ) (p : ℕ) : Type 0 where
+  pub processor : p < processors
+  pub few : getD issued p 0 < instructionsEach
+
+-- there is a write to drain
+pub record Drainable (drained : List ℕ) (e : Event) : Type 0 where
+  pub processor : e .processor < processors
+  pub location : e .location < locations
+  pub few : getD drained (e .processor) 0 < instructionsEach
+
+-- i's processor may go on: its numbers do not run over
+pub record Onward (ats taken : List ℕ) (i : Record) : Type 0 where
+  pub processor : i .processor < processors
+  pub kind : i .kind < tableRows
+  pub at : getD ats (i .processor) 0 ≤ instructionsEach
+  pub low : getD taken (i .processor) 0 < phases
+
+-- what the stores of the step e ask
+pub record Storable (m : Machine) (i : Record) (e : Event) : Type 0 where
+  pub own : Own i
+  pub onward : Onward (m .at) (m .phase) i
+  pub same : e .processor ≡ i .processor
+  pub location : e .location < locations
+  pub write : e .kind ≡ 2 → Issuable (m .issued) (i .processor)
+  pub drain : e .kind ≡ 3 → getD (m .drained) (i .processor) 0 < instructionsEach
+
+-- ---- at every step, where g has the programs
+
+pub record Long (m : Machine) : Type 0 where
+  pub registers : length (m .registers) ≡ processors * registersEach
+  pub memory : length (m .memory) ≡ locations
+  pub kept : length (m .kept) ≡ processors
+  pub at : length (m .at) ≡ processors
+  pub phase : length (m .phase) ≡ processors
+  pub xs : length (m .locations) ≡ processors * instructionsEach
+  pub vs : length (m .values) ≡ processors * instructionsEach
+  pub issued : length (m .issued) ≡ processors
+  pub drained : length (m .drained) ≡ processors
+
+-- of processor p: the writes issued and those to come have places in the log, and it stands inside its instruction
+pub record ReadyAt (g : Program) (m : Machine) (p : ℕ) : Type 0 where
+  pub order : getD (m .drained) p 0 ≤ getD (m .issued) p 0
+  pub room : getD (m .issued) p 0 + writes (todoIn g m p) ≤ instructionsEach
+  pub at : getD (m .at) p 0 ≤ countIn g p
+  pub phase : getD (m .phase) p 0 < phases
+  pub inside : getD (m .at) p 0 < countIn g p → getD (m .phase) p 0 < stepCount (instructionAt g p (getD (m .at) p 0) .kind)
+
+pub record Ready (g : Program) (m : Machine) : Type 0 where
+  pub fits : Fits g
+  pub long : Long m
+  pub each : (p : ℕ) → p < processors → ReadyAt g m p
+
+-- ---- a step
+
+pub record WellFormed (e : Event) : Type 0 where
+  pub kind : 0 < e .kind
+  pub processor : e .processor < processors
+  pub location : e .location < locations
+
+abbrev pub steppedAs : Bool → model.Machine → Stepped
+steppedAs true t = took t
+steppedAs false t = turned 11
+
+-- from the state m to the state n: the machine takes the step e, or turns it down and stays
+pub record Steps (g : Program) (m : Machine) (e : Event) (taken : Bool) (n : Machine) : Type 0 where
+  pub says : step (machineOf g m) e ≡ steppedAs taken (machineOf g n)
+  pub ready : Ready g n
+  pub kept : taken ≡ false → n ≡ m

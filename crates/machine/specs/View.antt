@@ -1,0 +1,40 @@
+-- The machine that the arrays stand for, where g has the programs.
+use mathlib.Core.Bool.{cond}
+use mathlib.Core.List.{List}
+use Prim.Native.Nat.{ℕ, _-_}
+use lib.ListN.{getD, drop}
+use lib.Seq.{slice}
+use lib.Dec.{eqb}
+use Rattle.model.specs.declared.table.Program.{Program}
+use Rattle.model.specs.Sizes.{processors, registersEach}
+use Rattle.model.specs.Program.{ProgramStep}
+use Rattle.model.specs.Machine as model
+use Rattle.model.specs.Machine.{WaitingWrite, Processor, Holder, free, held}
+use Rattle.model.specs.Code.{row, four, stepsFrom, countIn}
+use Rattle.rules.specs.Guards.{nobody}
+use Rattle.rules.specs.Offers.{writesIn, logAt}
+use Rattle.machine.specs.declared.state.Machine.{Machine}
+
+-- the writes of processor p that wait, oldest first
+unfoldable pub waitingIn : Machine → ℕ → List WaitingWrite
+unfolding writesIn
+waitingIn m p =
+    let oldest = logAt p (getD (m .drained) p 0) in
+    let end = logAt p (getD (m .issued) p 0) in
+    writesIn (slice oldest end (m .locations)) (slice oldest end (m .values))
+
+-- what is left of its program
+unfoldable pub todoIn : Program → Machine → ℕ → List ProgramStep
+unfolding stepsFrom
+todoIn g m p = let a = getD (m .at) p 0 in drop (getD (m .phase) p 0) (stepsFrom g p a (countIn g p - a))
+
+unfoldable pub processorOf : Program → Machine → ℕ → Processor
+unfolding todoIn waitingIn
+processorOf g m p = record { todo = todoIn g m p; kept = getD (m .kept) p 0; registers = row registersEach p (m .registers); waiting = waitingIn m p }
+
+unfoldable pub holderOf : ℕ → Holder
+holderOf h = cond (eqb h nobody) free (held h)
+
+unfoldable pub machineOf : Program → Machine → model.Machine
+unfolding processorOf holderOf
+machineOf g m = record { processors = four (processorOf g m); memory = m .memory; holder = holderOf (m .holder) }

@@ -1,0 +1,132 @@
+// One step.
+ghost use Rattle.rules.specs.Programs.{columns};
+ghost use Rattle.machine.specs.Arrays.{parts};
+ghost use Rattle.machine.specs.Ready.{Ready, WellFormed, Steps};
+use crate::apply;
+use crate::state::Machine;
+use model::record::Record;
+use model::table::Cells;
+use model::table::Program;
+use rules::guards;
+use rules::offer;
+use rules::program;
+
+// The step e on the arrays of a state, where kinds to counts are the columns of the program. Answers whether it is taken; if not, nothing changes.
+pub fn step_parts<'a>(
+    kinds: &'a [u8; Program::PLACES],
+    operands: &'a [u8; Program::PLACES],
+    targets: &'a [u8; Program::PLACES],
+    constants: &'a [u32; Program::PLACES],
+    counts: &'a [usize; Program::PROCESSORS],
+    registers: &'a mut [u32; Cells::ALL_REGISTERS],
+    memory: &'a mut [u32; Cells::LOCATIONS],
+    kept: &'a mut [u32; Program::PROCESSORS],
+    at: &'a mut [usize; Program::PROCESSORS],
+    phase: &'a mut [usize; Program::PROCESSORS],
+    locations: &'a mut [u8; Program::PLACES],
+    values: &'a mut [u32; Program::PLACES],
+    issued: &'a mut [usize; Program::PROCESSORS],
+    drained: &'a mut [usize; Program::PROCESSORS],
+    holder: &'a mut usize,
+    e: Record,
+) -> bool
+    requires { ⌜ Ready (columns (now kinds) (now operands) (now targets) (now constants) (now counts)) (parts (now registers) (now memory) (now kept) (now at) (now phase) (now locations) (now values) (now issued) (now drained) (now holder)) × WellFormed e ⌝ }
+    ensures { λ taken. ⌜ Steps (columns (now (kinds .entry)) (now (operands .entry)) (now (targets .entry)) (now (constants .entry)) (now (counts .entry))) (parts (now (registers .entry)) (now (memory .entry)) (now (kept .entry)) (now (at .entry)) (now (phase .entry)) (now (locations .entry)) (now (values .entry)) (now (issued .entry)) (now (drained .entry)) (now (holder .entry))) e taken (parts (now (registers .exit)) (now (memory .exit)) (now (kept .exit)) (now (at .exit)) (now (phase .exit)) (now (locations .exit)) (now (values .exit)) (now (issued .exit)) (now (drained .exit)) (now (holder .exit))) ⌝ }
+{
+    let p = e.processor as usize;
+    let i = program::fetch(kinds, operands, targets, constants, counts, p, at[p]);
+    let k = Cells::REGISTERS * p + (i.register as usize);
+    let x = i.location as usize;
+    let n = issued[p];
+    let d = drained[p];
+    let o = offer::offered(
+        locations,
+        values,
+        n,
+        d,
+        kept[p],
+        registers[k],
+        memory[x],
+        i,
+        phase[p],
+        e.kind,
+    );
+    if guards::same(e, o) & guards::permitted(o.kind, *holder, p, d == n) {
+        apply::apply(
+            registers,
+            memory,
+            kept,
+            at,
+            phase,
+            locations,
+            values,
+            issued,
+            drained,
+            holder,
+            i,
+            o,
+        );
+        return true;
+    }
+    false
+}
+
+pub struct Moved {
+    pub taken: bool,
+    pub next: Machine,
+}
+
+// The step e on a state by value. If it is not taken, the state stays.
+pub fn step(program: Program, m: Machine, e: Record) -> Moved
+    requires { ⌜ Ready program m × WellFormed e ⌝ }
+    ensures { λ r. ⌜ Steps program m e (r .taken) (r .next) ⌝ }
+{
+    let kinds = program.kinds;
+    let operands = program.registers;
+    let targets = program.locations;
+    let constants = program.values;
+    let counts = program.counts;
+    let mut registers = m.registers;
+    let mut memory = m.memory;
+    let mut kept = m.kept;
+    let mut at = m.at;
+    let mut phase = m.phase;
+    let mut locations = m.locations;
+    let mut values = m.values;
+    let mut issued = m.issued;
+    let mut drained = m.drained;
+    let mut holder = m.holder;
+    let taken = step_parts(
+        &kinds,
+        &operands,
+        &targets,
+        &constants,
+        &counts,
+        &mut registers,
+        &mut memory,
+        &mut kept,
+        &mut at,
+        &mut phase,
+        &mut locations,
+        &mut values,
+        &mut issued,
+        &mut drained,
+        &mut holder,
+        e,
+    );
+    Moved {
+        taken: taken,
+        next: Machine {
+            registers: registers,
+            memory: memory,
+            kept: kept,
+            at: at,
+            phase: phase,
+            locations: locations,
+            values: values,
+            issued: issued,
+            drained: drained,
+            holder: holder,
+        },
+    }
+}

@@ -1,0 +1,101 @@
+-- What the code's types stand for: verdicts, programs in columns, cells. Only contracts inside the repository speak of them.
+use mathlib.Core.Path.{_≡_}
+use mathlib.Core.List.{List, [], _∷_, _++_}
+use Prim.Native.Nat.{ℕ, zero, suc, _+_, _*_, _≤_, _<_}
+use lib.ListN.{length, getD}
+use lib.Seq.{slice}
+use Rattle.model.specs.declared.record.Record.{Record}
+use Rattle.model.specs.declared.answer.Verdict.{Verdict}
+use Rattle.model.specs.declared.answer.Verdict.the-variants.{Passed, Refused}
+use Rattle.model.specs.declared.table.Program.{Program}
+use Rattle.model.specs.declared.table.Cells.{Cells}
+use Rattle.model.specs.Sizes.{processors, registersEach, locations, instructionsEach}
+use Rattle.model.specs.Program.{ProgramStep, stepsOf}
+use Rattle.model.specs.Kinds.{Entry, initialMemory, initialRegister, instruction, tableRows, entryOf}
+use Rattle.model.specs.Machine.{Processor, Machine, free}
+use Rattle.model.specs.Reply.{numberOf}
+use Rattle.model.specs.Tests.{Test, first, Tested, passed, refused, unless}
+
+-- ---- verdicts
+
+-- a verdict, with what there is to go on with if it passed
+abbrev pub testedOf : {A : Type 0} → Verdict → A → Tested A
+testedOf Passed a = passed a
+testedOf (Refused why place) a = refused (numberOf why) place
+
+-- v is what these tests give at place i
+pub record Gives (v : Verdict) (tests : List Test) (i : ℕ) : Type 0 where
+  pub says : testedOf {A = Unit {0}} v tt ≡ unless (first tests) i (passed tt)
+
+-- ---- arrays
+
+-- row p of an array whose rows are w wide
+abbrev pub row : ℕ → ℕ → List ℕ → List ℕ
+row w p xs = slice (w * p) (w * p + w) xs
+
+-- one for each processor
+abbrev pub four : {A : Type 0} → (ℕ → A) → List A
+four f = f 0 ∷ f 1 ∷ f 2 ∷ f 3 ∷ []
+
+-- ---- programs
+
+-- an entry that is no instruction has no program steps
+unfoldable pub stepsIn : Entry → List ProgramStep
+unfolding stepsOf
+stepsIn (initialMemory x v) = []
+stepsIn (initialRegister p r v) = []
+stepsIn (instruction p i) = stepsOf i
+
+-- instruction a of processor p, as its table record gave it
+unfoldable pub instructionAt : Program → ℕ → ℕ → Record
+instructionAt g p a =
+    let at = instructionsEach * p + a in
+    record {
+      kind = getD (g .kinds) at 0;
+      processor = p;
+      register = getD (g .registers) at 0;
+      location = getD (g .locations) at 0;
+      value = getD (g .values) at 0;
+    }
+
+-- the program steps of n instructions of processor p, from instruction a on
+unfoldable pub stepsFrom : Program → ℕ → ℕ → ℕ → List ProgramStep
+unfolding stepsIn instructionAt entryOf
+stepsFrom g p a zero = []
+stepsFrom g p a (suc n) = stepsIn (entryOf (instructionAt g p a)) ++ stepsFrom g p (suc a) n
+
+-- how many instructions processor p has
+abbrev pub countIn : Program → ℕ → ℕ
+countIn g p = getD (g .counts) p 0
+
+-- ---- the machine at the start
+
+unfoldable pub processorAtStart : Program → Cells → ℕ → Processor
+unfolding stepsFrom
+processorAtStart g c p = record { todo = stepsFrom g p 0 (countIn g p); kept = 0; registers = row registersEach p (c .registers); waiting = [] }
+
+unfoldable pub startOf : Program → Cells → Machine
+unfolding processorAtStart
+startOf g c = record { processors = four (processorAtStart g c); memory = c .memory; holder = free }
+
+-- ---- what holds of every program and of all cells that a table gives
+
+-- an instruction's record: its kind is one of an instruction, its fields are in range
+pub record Fit (r : Record) : Type 0 where
+  pub low : 3 ≤ r .kind
+  pub high : r .kind < tableRows
+  pub register : r .register < registersEach
+  pub location : r .location < locations
+
+pub record Fits (g : Program) : Type 0 where
+  pub kinds : length (g .kinds) ≡ processors * instructionsEach
+  pub registers : length (g .registers) ≡ processors * instructionsEach
+  pub locations : length (g .locations) ≡ processors * instructionsEach
+  pub values : length (g .values) ≡ processors * instructionsEach
+  pub counts : length (g .counts) ≡ processors
+  pub few : (p : ℕ) → countIn g p ≤ instructionsEach
+  pub each : (p a : ℕ) → p < processors → a < countIn g p → Fit (instructionAt g p a)
+
+pub record Sized (c : Cells) : Type 0 where
+  pub registers : length (c .registers) ≡ processors * registersEach
+  pub memory : length (c .memory) ≡ locations

@@ -1,0 +1,5 @@
+pub mod Table
+pub mod Instructions
+pub mod Tests
+pub mod Lookup
+pub mod Offers

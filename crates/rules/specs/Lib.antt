@@ -1,0 +1,4 @@
+pub mod Steps
+pub mod Programs
+pub mod Guards
+pub mod Offers

@@ -1,0 +1,59 @@
+-- The step that a processor can come to, as an event; of kind 0 with none. i is the instruction that it stands at.
+use mathlib.Core.Path.{_≡_}
+use mathlib.Core.Bool.{cond}
+use mathlib.Core.List.{List, [], _∷_}
+use Prim.Native.Nat.{ℕ, _+_, _*_, _≤_, _<_}
+use lib.ListN.{length, getD}
+use lib.Seq.{slice}
+use lib.Dec.{eqb}
+use Rattle.model.specs.declared.record.Record.{Record}
+use Rattle.model.specs.Sizes.{processors, locations, instructionsEach}
+use Rattle.model.specs.Kinds.{tableRows}
+use Rattle.model.specs.Machine.{WaitingWrite, writeOf}
+use Rattle.model.specs.Rules.{Event, event}
+use Rattle.model.specs.Step.{newest}
+use Rattle.rules.specs.Steps.{phases, stepKind}
+use Rattle.rules.specs.Guards.{issuedBy}
+
+-- ---- the log of issued writes
+
+-- two columns as one list of writes
+unfoldable pub writesIn : List ℕ → List ℕ → List WaitingWrite
+writesIn [] vs = []
+writesIn (x ∷ xs) [] = []
+writesIn (x ∷ xs) (v ∷ vs) = writeOf x v ∷ writesIn xs vs
+
+-- the log of processor p
+pub record Log (xs vs : List ℕ) (issued drained p : ℕ) : Type 0 where
+  pub processor : p < processors
+  pub order : drained ≤ issued
+  pub few : issued ≤ instructionsEach
+  pub locations : length xs ≡ processors * instructionsEach
+  pub values : length vs ≡ processors * instructionsEach
+
+-- the place of a write in it, where n writes of processor p are before it
+abbrev pub logAt : ℕ → ℕ → ℕ
+logAt p n = instructionsEach * p + n
+
+pub record Offerable (xs vs : List ℕ) (issued drained : ℕ) (i : Record) (phase : ℕ) : Type 0 where
+  pub log : Log xs vs issued drained (i .processor)
+  pub kind : i .kind < tableRows
+  pub low : phase < phases
+
+-- ---- the steps
+
+module _ (locations values : List ℕ) (issued drained : ℕ) where
+  unfoldable pub oldestIn : ℕ → Event
+  oldestIn p = cond (eqb drained issued) (event 0 p 0 0) (event 3 p (getD locations (logAt p drained) 0) (getD values (logAt p drained) 0))
+
+  module _ (kept register memory : ℕ) (i : Record) where
+    unfoldable pub nextIn : ℕ → Event
+    nextIn next =
+        let p = i .processor in
+        let x = i .location in
+        let waiting = writesIn (slice (logAt p drained) (logAt p issued) locations) (slice (logAt p drained) (logAt p issued) values) in
+        cond (eqb next 1) (event 1 p x (newest waiting x memory)) (cond (eqb next 2) (event 2 p x (issuedBy i kept register)) (event next p 0 0))
+
+    unfoldable pub offeredIn : ℕ → ℕ → Event
+    unfolding oldestIn nextIn
+    offeredIn phase kind = cond (eqb kind 3) (oldestIn (i .processor)) (nextIn (stepKind (i .kind) phase))

@@ -1,0 +1,109 @@
+// Programs: the instruction that a processor stands at, and the program steps of each kind.
+ghost use mathlib.Core.Path.{_≡_};
+ghost use Prim.Native.Nat.{_<_};
+ghost use Rattle.model.specs.Code.{Fits};
+ghost use Rattle.model.specs.Kinds.{tableRows};
+ghost use Rattle.rules.specs.Steps.{phases, stepKind, stepCount};
+ghost use Rattle.rules.specs.Programs.{columns, Fetched};
+use model::record::Record;
+use model::table::Program;
+
+// The kinds of steps.
+pub const READ: u8 = 1;
+
+pub const WRITE: u8 = 2;
+
+pub const DRAIN: u8 = 3;
+
+pub const FENCE: u8 = 4;
+
+pub const LOCK: u8 = 5;
+
+pub const UNLOCK: u8 = 6;
+
+pub const LOCAL: u8 = 7;
+
+// Kinds of instructions that do something of their own: from EXCHANGE on a write exchanges, from EXCHANGE_ADD on it adds.
+pub const STORE_CONSTANT: u8 = 3;
+
+pub const LOAD: u8 = 5;
+
+pub const EXCHANGE: u8 = 8;
+
+pub const EXCHANGE_ADD: u8 = 10;
+
+// Past the last program step, and past the last instruction.
+pub const NONE: u8 = 0;
+
+// No instruction has more program steps.
+const PHASES: usize = 4;
+
+// The kinds of table records, with 0.
+const ROWS: usize = 12;
+
+// The program steps of each instruction kind, in order.
+const STEPS: [[u8; PHASES]; ROWS] = [
+    [NONE, NONE, NONE, NONE], // 0 no kind
+    [NONE, NONE, NONE, NONE], // 1 initial memory
+    [NONE, NONE, NONE, NONE], // 2 initial register
+    [WRITE, NONE, NONE, NONE], // 3 store constant
+    [WRITE, NONE, NONE, NONE], // 4 store register
+    [READ, NONE, NONE, NONE], // 5 load
+    [LOCAL, NONE, NONE, NONE], // 6 set register
+    [FENCE, NONE, NONE, NONE], // 7 fence
+    [READ, WRITE, NONE, NONE], // 8 exchange
+    [LOCK, READ, WRITE, UNLOCK], // 9 locked exchange
+    [READ, WRITE, NONE, NONE], // 10 exchange-and-add
+    [LOCK, READ, WRITE, UNLOCK], // 11 locked exchange-and-add
+];
+
+// And how many they are.
+const COUNTS: [usize; ROWS] = [0, 0, 0, 1, 1, 1, 1, 1, 2, 4, 2, 4];
+
+pub fn step_kind(kind: u8, phase: usize) -> u8
+    requires { ⌜ (kind < tableRows) × (phase < phases) ⌝ }
+    ensures { λ r. ⌜ r ≡ stepKind kind phase ⌝ }
+{
+    let k = kind as usize;
+    STEPS[k][phase]
+}
+
+pub fn step_count(kind: u8) -> usize
+    requires { ⌜ kind < tableRows ⌝ }
+    ensures { λ r. ⌜ r ≡ stepCount kind ⌝ }
+{
+    let k = kind as usize;
+    COUNTS[k]
+}
+
+// The table record of the instruction that processor p stands at. Past the last one its kind is NONE.
+pub fn fetch(
+    kinds: &[u8; Program::PLACES],
+    registers: &[u8; Program::PLACES],
+    locations: &[u8; Program::PLACES],
+    values: &[u32; Program::PLACES],
+    counts: &[usize; Program::PROCESSORS],
+    p: usize,
+    at: usize,
+) -> Record
+    requires { do ⌜ (p < (← ⟦Program::PROCESSORS⟧)) × Fits (columns (now kinds) (now registers) (now locations) (now values) (now counts)) ⌝ }
+    ensures { λ r. ⌜ Fetched (columns (now (kinds .entry)) (now (registers .entry)) (now (locations .entry)) (now (values .entry)) (now (counts .entry))) p at r ⌝ }
+{
+    if at < counts[p] {
+        let k = Program::INSTRUCTIONS * p + at;
+        return Record {
+            kind: kinds[k],
+            processor: p as u8,
+            register: registers[k],
+            location: locations[k],
+            value: values[k],
+        };
+    }
+    Record {
+        kind: NONE,
+        processor: p as u8,
+        register: 0,
+        location: 0,
+        value: 0,
+    }
+}

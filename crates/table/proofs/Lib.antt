@@ -1,0 +1,7 @@
+pub mod Forms
+pub mod Entering
+pub mod Fitting
+pub mod More
+pub mod Holding
+pub mod Turns
+pub mod Told

@@ -1,0 +1,13 @@
+use borrow.Author.Needs.{needs}
+use Rattle.model.specs.Fields.{among}
+use Rattle.model.specs.Kinds.{tableKinds, tableUses}
+use Rattle.record.proofs.Tests.{row-at}
+use Rattle.table.proofs.kinds.used_by.Statement.{statement}
+use Rattle.table.proofs.kinds.used_by.Tie as tie
+
+returns : tie.Need-returns
+unfolding tableUses tableKinds among
+returns c = row-at tableUses (c .before .args .kind) (search needs)
+
+pub used-by-spec : {M : Type 1} → statement M
+used-by-spec = tie.close (tie.spec (λ c. search needs) (λ c. search needs) returns)

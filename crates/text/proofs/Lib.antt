@@ -1,0 +1,4 @@
+pub mod Adding
+pub mod Decimal
+pub mod Listings
+pub mod Replied

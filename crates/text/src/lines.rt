@@ -1,0 +1,82 @@
+// The lines of a listing.
+ghost use mathlib.Core.Path.{_≡_};
+ghost use Prim.Native.Nat.{_+_, _≤_, _<_};
+ghost use lib.ListN.{length};
+ghost use Rattle.model.specs.Reply.{numberOf};
+ghost use Rattle.model.specs.Sizes.{processors, resultWords};
+ghost use Rattle.text.specs.Text.{Adds};
+ghost use Rattle.text.specs.Reply.{finishedLine, processorLine, processorLines, memoryLine, refusedLine};
+use crate::number::number;
+use crate::put::LINE_END;
+use crate::put::put_byte;
+use crate::put::put_number;
+use crate::put::put_numbers;
+use crate::put::put_word;
+use model::answer::Refusal;
+use model::table::Cells;
+use model::table::Program;
+
+pub fn put_refused(out: &mut [u8], why: Refusal, place: usize) -> usize
+    requires { ⌜ 64 ≤ length (now out) ⌝ }
+    ensures { λ r. ⌜ Adds (now (out .entry)) 0 (refusedLine (numberOf why) place) (now (out .exit)) r ⌝ }
+    ensures { λ r. ⌜ r ≤ 64 ⌝ }
+{
+    let at = put_word(out, 0, b"refused ");
+    let at = put_number(out, at, number(why));
+    let at = put_word(out, at, b" at ");
+    let at = put_number(out, at, place as u64);
+    put_byte(out, at, LINE_END)
+}
+
+pub fn put_finished(out: &mut [u8], steps: usize) -> usize
+    requires { ⌜ 64 ≤ length (now out) ⌝ }
+    ensures { λ r. ⌜ Adds (now (out .entry)) 0 (finishedLine steps) (now (out .exit)) r ⌝ }
+    ensures { λ r. ⌜ r ≤ 64 ⌝ }
+{
+    let at = put_word(out, 0, b"finished ");
+    let at = put_number(out, at, steps as u64);
+    put_byte(out, at, LINE_END)
+}
+
+fn put_processor(out: &mut [u8], at: usize, room: &[u32], p: usize) -> usize
+    requires { ⌜ at + 128 ≤ length (now out) ⌝ }
+    requires { ⌜ length (now room) ≡ resultWords ⌝ }
+    requires { ⌜ p < processors ⌝ }
+    ensures { λ r. ⌜ Adds (now (out .entry)) at (processorLine (now (room .entry)) p) (now (out .exit)) r ⌝ }
+    ensures { λ r. ⌜ r ≤ at + 128 ⌝ }
+{
+    let first = p * Cells::REGISTERS;
+    let end = first + Cells::REGISTERS;
+    let at = put_byte(out, at, b'p');
+    let at = put_number(out, at, p as u64);
+    let at = put_numbers(out, at, &room[first..end]);
+    put_byte(out, at, LINE_END)
+}
+
+pub fn put_processors(out: &mut [u8], at: usize, room: &[u32]) -> usize
+    requires { ⌜ at + 512 ≤ length (now out) ⌝ }
+    requires { ⌜ length (now room) ≡ resultWords ⌝ }
+    ensures { λ r. ⌜ Adds (now (out .entry)) at (processorLines (now (room .entry)) processors) (now (out .exit)) r ⌝ }
+    ensures { λ r. ⌜ r ≤ at + 512 ⌝ }
+{
+    let mut next = at;
+    let mut p: usize = 0;
+    while p < Program::PROCESSORS {
+        next = put_processor(out, next, room, p);
+        p += 1;
+    }
+    next
+}
+
+pub fn put_memory(out: &mut [u8], at: usize, room: &[u32]) -> usize
+    requires { ⌜ at + 256 ≤ length (now out) ⌝ }
+    requires { ⌜ length (now room) ≡ resultWords ⌝ }
+    ensures { λ r. ⌜ Adds (now (out .entry)) at (memoryLine (now (room .entry))) (now (out .exit)) r ⌝ }
+    ensures { λ r. ⌜ r ≤ at + 256 ⌝ }
+{
+    let first = Cells::ALL_REGISTERS;
+    let end = first + Cells::LOCATIONS;
+    let at = put_byte(out, at, b'm');
+    let at = put_numbers(out, at, &room[first..end]);
+    put_byte(out, at, LINE_END)
+}
