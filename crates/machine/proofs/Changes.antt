@@ -11,10 +11,10 @@ use Rattle.model.specs.Sizes.{processors, registersEach, instructionsEach}
 use Rattle.model.specs.Program.{ProgramStep}
 use Rattle.model.specs.Machine.{Processor, WaitingWrite, writeOf, idle, processor, advanced, assigned, drained}
 use Rattle.model.specs.Rules.{Event}
-use Rattle.model.specs.Code.{row, stepsFrom, countIn}
+use Rattle.model.specs.Code.{placeAt, row, stepsFrom, countIn}
 use Rattle.model.proofs.Rows.{row-set, row-set-other, four-get, four-set}
 use Rattle.machine.specs.declared.state.Machine.{Machine}
-use Rattle.rules.specs.Offers.{writesIn, logAt}
+use Rattle.rules.specs.Offers.{writesIn}
 use Rattle.machine.specs.View.{waitingIn, todoIn, processorOf, holderOf, machineOf}
 use Rattle.machine.specs.Arrays.{parts}
 use Rattle.machine.specs.Stores.{isLast, nextAt, assignedIn, advancedIn, drainedIn, heldIn}
@@ -131,7 +131,7 @@ module _ (g : Program) where
           waiting =
               let d = getD-set-same (m .drained) p (getD (m .drained) p 0 + 1) 0 (rw (l .drained) h) j in
               let n = getD (m .issued) p 0 in
-              writesIn (slice (logAt p d) (logAt p n) (m .locations)) (slice (logAt p d) (logAt p n) (m .values));
+              writesIn (slice (placeAt p d) (placeAt p n) (m .locations)) (slice (placeAt p d) (placeAt p n) (m .values));
         };
         others = λ q k n j. record {
           todo = todoIn g m q;
@@ -140,7 +140,7 @@ module _ (g : Program) where
           waiting =
               let d = getD-set-other (m .drained) p q (getD (m .drained) p 0 + 1) 0 n j in
               let n = getD (m .issued) q 0 in
-              writesIn (slice (logAt q d) (logAt q n) (m .locations)) (slice (logAt q d) (logAt q n) (m .values));
+              writesIn (slice (placeAt q d) (placeAt q n) (m .locations)) (slice (placeAt q d) (placeAt q n) (m .values));
         };
       }
 

@@ -75,7 +75,7 @@ module _ (g : Program) (m : Machine) (ready : Ready g m) (i : Record) (here : Fe
     unfolding carriedOut nextIn writes
     carries-read e =
         still _ refl refl refl
-        (stored-long m (ready .long) _ _ _ _ _ _ (either-long (eqb (i .kind) 5) _ _ 16 (set-long (m .registers) _ _ 16 (ready .long .registers)) (ready .long .registers)) (either-long (eqb (i .kind) 5) _ _ 4 (ready .long .kept) (set-long (m .kept) _ _ 4 (ready .long .kept))) (ready .long .xs) (ready .long .vs) (ready .long .issued))
+        (stored-long m (ready .long) _ _ _ _ _ _ (either-long (eqb (i .kind) 5) _ _ 16 (set-long (m .registers) _ _ 16 (ready .long .registers)) (ready .long .registers)) (either-long (eqb (i .kind) 5) _ _ 4 (ready .long .kept) (set-long (m .kept) _ _ 4 (ready .long .kept))) (ready .long .logLocations) (ready .long .logValues) (ready .long .issued))
         refl (ap writes e)
 
     carries-write : Carries 2
@@ -87,14 +87,14 @@ module _ (g : Program) (m : Machine) (ready : Ready g m) (i : Record) (here : Fe
           at = refl;
           phase = refl;
           drained = refl;
-          long = stored-long m (ready .long) _ _ _ _ _ _ (either-long (leb 8 (i .kind)) _ _ 16 (set-long (m .registers) _ _ 16 (ready .long .registers)) (ready .long .registers)) (ready .long .kept) (set-long (m .locations) _ _ 64 (ready .long .xs)) (set-long (m .values) _ _ 64 (ready .long .vs)) (set-long (m .issued) _ _ 4 (ready .long .issued));
+          long = stored-long m (ready .long) _ _ _ _ _ _ (either-long (leb 8 (i .kind)) _ _ 16 (set-long (m .registers) _ _ 16 (ready .long .registers)) (ready .long .registers)) (ready .long .kept) (set-long (m .locations) _ _ 64 (ready .long .logLocations)) (set-long (m .values) _ _ 64 (ready .long .logValues)) (set-long (m .issued) _ _ 4 (ready .long .issued));
           others = λ q x. getD-set-other (m .issued) p q (n + 1) 0 x;
           more = rw own (omega arith);
           room = rw (own, w) (omega arith);
         }
 
     held-long : (holder : ℕ) → Long (heldIn m holder)
-    held-long holder = stored-long m (ready .long) _ _ _ _ _ holder (ready .long .registers) (ready .long .kept) (ready .long .xs) (ready .long .vs) (ready .long .issued)
+    held-long holder = stored-long m (ready .long) _ _ _ _ _ holder (ready .long .registers) (ready .long .kept) (ready .long .logLocations) (ready .long .logValues) (ready .long .issued)
 
     carries-fence : Carries 4
     unfolding carriedOut nextIn writes
@@ -112,7 +112,7 @@ module _ (g : Program) (m : Machine) (ready : Ready g m) (i : Record) (here : Fe
     unfolding carriedOut nextIn writes
     carries-local e =
         still (assignedIn m i (i .value)) refl refl refl
-        (stored-long m (ready .long) _ _ _ _ _ _ (set-long (m .registers) _ _ 16 (ready .long .registers)) (ready .long .kept) (ready .long .xs) (ready .long .vs) (ready .long .issued))
+        (stored-long m (ready .long) _ _ _ _ _ _ (set-long (m .registers) _ _ 16 (ready .long .registers)) (ready .long .kept) (ready .long .logLocations) (ready .long .logValues) (ready .long .issued))
         refl (ap writes e)
 
     pub carries : Carried (carriedOut m i (nextOf m i (stepKind (i .kind) f)))

@@ -29,8 +29,8 @@ module _ (m : Machine) (l : Long m) where
     kept = k;
     at = l .at;
     phase = l .phase;
-    xs = x;
-    vs = v;
+    logLocations = x;
+    logValues = v;
     issued = n;
     drained = l .drained;
   }
@@ -42,8 +42,8 @@ module _ (m : Machine) (l : Long m) where
     kept = l .kept;
     at = either-long (isLast (m .phase) i) _ _ processors (set-long (m .at) _ _ processors (l .at)) (l .at);
     phase = set-long (m .phase) _ _ processors (l .phase);
-    xs = l .xs;
-    vs = l .vs;
+    logLocations = l .logLocations;
+    logValues = l .logValues;
     issued = l .issued;
     drained = l .drained;
   }
@@ -55,8 +55,8 @@ module _ (m : Machine) (l : Long m) where
     kept = l .kept;
     at = l .at;
     phase = l .phase;
-    xs = l .xs;
-    vs = l .vs;
+    logLocations = l .logLocations;
+    logValues = l .logValues;
     issued = l .issued;
     drained = set-long (m .drained) _ _ processors (l .drained);
   }

@@ -8,21 +8,22 @@ use lib.ListN.{getD, set}
 use lib.Seq.{slice, getD-set-same, getD-set-other}
 use lib.Dec.{eqb}
 use borrow.Author.Tests.{eqb-true, eqb-false}
+use Rattle.model.specs.Code.{placeAt}
 use Rattle.model.specs.Sizes.{processors, instructionsEach}
 use Rattle.model.specs.Machine.{WaitingWrite, writeOf, drained}
 use Rattle.model.specs.Step.{isEmpty}
 use Rattle.model.proofs.Rows.{part-set-other}
 use Rattle.machine.specs.declared.state.Machine.{Machine}
-use Rattle.rules.specs.Offers.{writesIn, logAt}
+use Rattle.rules.specs.Offers.{writesIn}
 use Rattle.machine.specs.View.{waitingIn}
 use Rattle.machine.specs.Arrays.{parts}
-use Rattle.machine.specs.Stores.{placeOf}
+use Rattle.machine.specs.Stores.{nextPlace}
 use Rattle.machine.specs.Ready.{Long}
 use Rattle.rules.proofs.Lookup.{part-none, part-some, part-more}
 
 abbrev pub pushedIn : Machine → ℕ → ℕ → ℕ → Machine
 pushedIn m p x v =
-    parts (m .registers) (m .memory) (m .kept) (m .at) (m .phase) (set (m .locations) (placeOf (m .issued) p) x) (set (m .values) (placeOf (m .issued) p) v)
+    parts (m .registers) (m .memory) (m .kept) (m .at) (m .phase) (set (m .locations) (nextPlace (m .issued) p) x) (set (m .values) (nextPlace (m .issued) p) v)
     (set (m .issued) p (getD (m .issued) p 0 + 1)) (m .drained) (m .holder)
 
 -- the waiting writes alone; those of q wait between its two numbers
@@ -36,8 +37,8 @@ pushed-own m p x v h l o r =
     let d = getD (m .drained) p 0 in
     let n = getD (m .issued) p 0 in
     let e : getD (set (m .issued) p (n + 1)) p 0 ≡ n + 1 = getD-set-same (m .issued) p (n + 1) 0 (rw (l .issued) h) in
-    let s : logAt p (n + 1) ≡ suc (logAt p n) = omega arith in
-    rw (e, s) (part-more (logAt p d) (logAt p n) (m .locations) (m .values) (l .xs ∙ sym (l .vs)) x v (omega arith) (rw (l .xs) (omega arith)))
+    let s : placeAt p (n + 1) ≡ suc (placeAt p n) = omega arith in
+    rw (e, s) (part-more (placeAt p d) (placeAt p n) (m .locations) (m .values) (l .logLocations ∙ sym (l .logValues)) x v (omega arith) (rw (l .logLocations) (omega arith)))
 
 pub pushed-other : (m : Machine) (p q x v : ℕ) → getD (m .issued) p 0 < instructionsEach → ¬ (q ≡ p) → Bounds m q → waitingIn (pushedIn m p x v) q ≡ waitingIn m q
 unfolding waitingIn
@@ -46,26 +47,26 @@ pushed-other m p q x v r n b =
     let few = b .1 in
     rw (
       getD-set-other (m .issued) p q (getD (m .issued) p 0 + 1) 0 n,
-      part-set-other instructionsEach p q (logAt q (getD (m .drained) q 0)) (logAt q (getD (m .issued) q 0)) (getD (m .issued) p 0) x (m .locations) n r (omega arith) (omega arith),
-      part-set-other instructionsEach p q (logAt q (getD (m .drained) q 0)) (logAt q (getD (m .issued) q 0)) (getD (m .issued) p 0) v (m .values) n r (omega arith) (omega arith),
+      part-set-other instructionsEach p q (placeAt q (getD (m .drained) q 0)) (placeAt q (getD (m .issued) q 0)) (getD (m .issued) p 0) x (m .locations) n r (omega arith) (omega arith),
+      part-set-other instructionsEach p q (placeAt q (getD (m .drained) q 0)) (placeAt q (getD (m .issued) q 0)) (getD (m .issued) p 0) v (m .values) n r (omega arith) (omega arith),
     )
 
 -- what waits behind the oldest
 abbrev pub newerIn : Machine → ℕ → List WaitingWrite
-newerIn m p = let d = getD (m .drained) p 0 in let n = getD (m .issued) p 0 in writesIn (slice (logAt p (d + 1)) (logAt p n) (m .locations)) (slice (logAt p (d + 1)) (logAt p n) (m .values))
+newerIn m p = let d = getD (m .drained) p 0 in let n = getD (m .issued) p 0 in writesIn (slice (placeAt p (d + 1)) (placeAt p n) (m .locations)) (slice (placeAt p (d + 1)) (placeAt p n) (m .values))
 
 pub none-waits : (m : Machine) (p : ℕ) → getD (m .drained) p 0 ≡ getD (m .issued) p 0 → waitingIn m p ≡ []
 unfolding waitingIn
-none-waits m p e = rw e (part-none (logAt p (getD (m .issued) p 0)) (m .locations) (m .values))
+none-waits m p e = rw e (part-none (placeAt p (getD (m .issued) p 0)) (m .locations) (m .values))
 
 pub some-wait : (m : Machine) (p : ℕ) → p < processors → Long m → getD (m .drained) p 0 < getD (m .issued) p 0 → getD (m .issued) p 0 ≤ instructionsEach
-    → waitingIn m p ≡ writeOf (getD (m .locations) (logAt p (getD (m .drained) p 0)) 0) (getD (m .values) (logAt p (getD (m .drained) p 0)) 0) ∷ newerIn m p
+    → waitingIn m p ≡ writeOf (getD (m .locations) (placeAt p (getD (m .drained) p 0)) 0) (getD (m .values) (placeAt p (getD (m .drained) p 0)) 0) ∷ newerIn m p
 unfolding waitingIn
 some-wait m p h l o r =
     let d = getD (m .drained) p 0 in
     let n = getD (m .issued) p 0 in
-    let s : logAt p (d + 1) ≡ suc (logAt p d) = omega arith in
-    rw s (part-some (logAt p d) (logAt p n) (m .locations) (m .values) (l .xs ∙ sym (l .vs)) (omega arith) (rw (l .xs) (omega arith)))
+    let s : placeAt p (d + 1) ≡ suc (placeAt p d) = omega arith in
+    rw s (part-some (placeAt p d) (placeAt p n) (m .locations) (m .values) (l .logLocations ∙ sym (l .logValues)) (omega arith) (rw (l .logLocations) (omega arith)))
 
 -- whether any waits
 pub waits-none : (m : Machine) (p : ℕ) → p < processors → Long m → getD (m .drained) p 0 ≤ getD (m .issued) p 0 → getD (m .issued) p 0 ≤ instructionsEach

@@ -8,6 +8,7 @@ use native.Mathlib.Omega.{arith}
 use lib.ListN.{getD, set}
 use lib.Dec.{eqb, leb}
 use borrow.Author.Tests.{eqb-true, eqb-false}
+use Rattle.model.specs.Code.{placeAt, registerOf}
 use Rattle.model.specs.declared.record.Record.{Record}
 use Rattle.model.specs.declared.table.Program.{Program}
 use Rattle.model.specs.Sizes.{processors, registersEach, instructionsEach}
@@ -22,8 +23,8 @@ use Rattle.model.proofs.Rows.{slice-get}
 use Rattle.machine.specs.declared.state.Machine.{Machine}
 use Rattle.machine.specs.View.{waitingIn, todoIn, processorOf, holderOf, machineOf}
 use Rattle.rules.specs.Steps.{stepKind, stepCount}
-use Rattle.machine.specs.Arrays.{parts, isDry, oldestOf, nextOf, registerOf}
-use Rattle.rules.specs.Offers.{logAt, oldestIn, nextIn}
+use Rattle.machine.specs.Arrays.{parts, isDry, oldestOf, nextOf}
+use Rattle.rules.specs.Offers.{oldestIn, nextIn}
 use Rattle.rules.specs.Guards.{notBlockedIn, permits, issuedBy}
 use Rattle.machine.specs.Stores.{advancedIn, drainedIn, assignedIn, heldIn, afterEvent}
 use Rattle.machine.specs.Ready.{Own, ReadyAt, Ready}
@@ -76,10 +77,10 @@ module _ (g : Program) (m : Machine) (ready : Ready g m) (i : Record) (own : Own
   oldest-offer = rw waiting-is (go (eqb d n) refl)
     where
       x : ℕ
-      x = getD (m .locations) (logAt p d) 0
+      x = getD (m .locations) (placeAt p d) 0
 
       v : ℕ
-      v = getD (m .values) (logAt p d) 0
+      v = getD (m .values) (placeAt p d) 0
 
       go : (b : Bool) → eqb d n ≡ b → drainMove M p (waitingIn m p) ≡ offer g m i (cond b (event 0 p 0 0) (event 3 p x v))
       go true e = rw (none-waits m p (eqb-true d n e))
@@ -161,7 +162,7 @@ module _ (g : Program) (m : Machine) (ready : Ready g m) (i : Record) (own : Own
         pushes = pushed-changes g m p x v (own .processor) (ready .long) bounds r
 
         go : (b : Bool) → withProcessor M p (advanced (withExchange b (writeOf x v) (processor M p)) rest)
-            ≡ machineOf g (advancedIn (parts (cond b (set (m .registers) (registerOf i) (getD (m .kept) p 0)) (m .registers)) (m .memory) (m .kept) (m .at) (m .phase) (set (m .locations) (logAt p n) x) (set (m .values) (logAt p n) v) (set (m .issued) p (n + 1)) (m .drained) (m .holder)) i)
+            ≡ machineOf g (advancedIn (parts (cond b (set (m .registers) (registerOf i) (getD (m .kept) p 0)) (m .registers)) (m .memory) (m .kept) (m .at) (m .phase) (set (m .locations) (placeAt p n) x) (set (m .values) (placeAt p n) v) (set (m .issued) p (n + 1)) (m .drained) (m .holder)) i)
         go true = sym (stepped (assignedIn (pushedIn m p x v) i (getD (m .kept) p 0)) (withExchange true (writeOf x v)) refl refl (exchange-changes x v pushes))
         go false = sym (stepped (pushedIn m p x v) (withWrite g (writeOf x v)) refl refl pushes)
 

@@ -1,15 +1,16 @@
 -- The state at the start: it stands for the machine of the table, and all holds of it.
 use mathlib.Core.Path.{_≡_, refl}
 use mathlib.Core.List.{[], _∷_}
-use Prim.Native.Nat.{ℕ, zero, suc, _+_, _-_, _*_}
+use Prim.Native.Nat.{ℕ, _+_, _-_, _*_}
 use native.Mathlib.Omega.{arith}
-use lib.ListN.{getD, replicate}
+use lib.ListN.{replicate}
 use lib.Dec.{lit<}
 use Rattle.model.specs.declared.table.Program.{Program}
 use Rattle.model.specs.declared.table.Cells.{Cells}
 use Rattle.model.specs.Sizes.{processors, registersEach}
 use Rattle.model.specs.Code.{row, instructionAt, stepsFrom, countIn, processorAtStart, startOf, Fits, Sized}
 use Rattle.model.proofs.Columns.{few-writes}
+use Rattle.model.proofs.Rows.{alike}
 use Rattle.machine.specs.declared.state.Machine.{Machine}
 use Rattle.machine.specs.View.{waitingIn, todoIn, processorOf, holderOf, machineOf}
 use Rattle.machine.specs.Arrays.{startIn}
@@ -17,27 +18,20 @@ use Rattle.machine.specs.Ready.{Ready}
 use Rattle.rules.proofs.Lookup.{part-none}
 use Rattle.machine.proofs.Todo.{some-steps}
 
-zeros : (n k : ℕ) → _≡_ {A = ℕ} (getD (replicate n 0) k 0) 0
-zeros zero k = refl
-zeros (suc n) zero = refl
-zeros (suc n) (suc k) = zeros n k
-
--- ---- the start
-
 module _ (g : Program) (c : Cells) where
   start-todo : (p : ℕ) → todoIn g (startIn c) p ≡ stepsFrom g p 0 (countIn g p)
   unfolding todoIn
-  start-todo p = let e : countIn g p - 0 ≡ countIn g p = omega arith in rw (zeros 4 p, e)
+  start-todo p = let e : countIn g p - 0 ≡ countIn g p = omega arith in rw (alike {A = ℕ} 0 4 p, e)
 
   start-waiting : (p : ℕ) → waitingIn (startIn c) p ≡ []
   unfolding waitingIn
-  start-waiting p = rw (zeros 4 p) (part-none (16 * p + 0) (replicate 64 0) (replicate 64 0))
+  start-waiting p = rw (alike {A = ℕ} 0 4 p) (part-none (16 * p + 0) (replicate 64 0) (replicate 64 0))
 
   processor-at-start : (p : ℕ) → processorOf g (startIn c) p ≡ processorAtStart g c p
   unfolding processorOf processorAtStart
   processor-at-start p = λ j. record {
     todo = start-todo p j;
-    kept = zeros 4 p j;
+    kept = alike {A = ℕ} 0 4 p j;
     registers = row registersEach p (c .registers);
     waiting = start-waiting p j;
   }
@@ -53,12 +47,12 @@ module _ (g : Program) (c : Cells) where
   pub start-ready : Fits g → Sized c → Ready g (startIn c)
   start-ready s z = record {
     fits = s;
-    long = record { registers = z .registers; memory = z .memory; kept = refl; at = refl; phase = refl; xs = refl; vs = refl; issued = refl; drained = refl };
+    long = record { registers = z .registers; memory = z .memory; kept = refl; at = refl; phase = refl; logLocations = refl; logValues = refl; issued = refl; drained = refl };
     each = λ p h. record {
       order = omega arith;
-      room = let w = few-writes g p 0 (countIn g p) in let few = s .few p in rw (zeros 4 p, start-todo p) (omega arith);
-      at = rw (zeros 4 p) (omega arith);
-      phase = rw (zeros 4 p) (lit< tt);
-      inside = rw (zeros 4 p) (λ l. let t = s .each p 0 h l in some-steps (instructionAt g p 0 .kind) (t .high) (t .low));
+      room = let w = few-writes g p 0 (countIn g p) in let few = s .few p in rw (alike {A = ℕ} 0 4 p, start-todo p) (omega arith);
+      at = rw (alike {A = ℕ} 0 4 p) (omega arith);
+      phase = rw (alike {A = ℕ} 0 4 p) (lit< tt);
+      inside = rw (alike {A = ℕ} 0 4 p) (λ l. let t = s .each p 0 h l in some-steps (instructionAt g p 0 .kind) (t .high) (t .low));
     };
   }

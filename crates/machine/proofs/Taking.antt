@@ -37,8 +37,8 @@ module _ (g : Program) (m : Machine) (ready : Ready g m) (e : Event) (range : We
           processor = rw (here .processor) (range .processor);
           order = r .order;
           few = omega arith;
-          locations = ready .long .xs;
-          values = ready .long .vs;
+          locations = ready .long .logLocations;
+          values = ready .long .logValues;
         };
         kind = here .kind;
         low = r .phase;

@@ -1,12 +1,13 @@
 -- A state as its arrays. i is the instruction that a processor stands at.
 use mathlib.Core.Bool.{Bool, _&&_}
 use mathlib.Core.List.{List}
-use Prim.Native.Nat.{ℕ, _+_, _*_}
+use Prim.Native.Nat.{ℕ, _*_}
 use lib.ListN.{getD, replicate}
 use lib.Dec.{eqb}
+use Rattle.model.specs.Code.{registerOf}
 use Rattle.model.specs.declared.record.Record.{Record}
 use Rattle.model.specs.declared.table.Cells.{Cells}
-use Rattle.model.specs.Sizes.{processors, registersEach, instructionsEach}
+use Rattle.model.specs.Sizes.{processors, instructionsEach}
 use Rattle.model.specs.Rules.{Event}
 use Rattle.rules.specs.Offers.{oldestIn, nextIn, offeredIn}
 use Rattle.rules.specs.Guards.{nobody}
@@ -47,9 +48,6 @@ drainedNow m i = getD (m .drained) (i .processor) 0
 
 abbrev pub isDry : Machine → Record → Bool
 isDry m i = eqb (drainedNow m i) (issuedNow m i)
-
-abbrev pub registerOf : Record → ℕ
-registerOf i = registersEach * i .processor + i .register
 
 abbrev pub oldestOf : Machine → Record → Event
 oldestOf m i = oldestIn (m .locations) (m .values) (issuedNow m i) (drainedNow m i) (i .processor)

@@ -57,8 +57,8 @@ pub record Long (m : Machine) : Type 0 where
   pub kept : length (m .kept) ≡ processors
   pub at : length (m .at) ≡ processors
   pub phase : length (m .phase) ≡ processors
-  pub xs : length (m .locations) ≡ processors * instructionsEach
-  pub vs : length (m .values) ≡ processors * instructionsEach
+  pub logLocations : length (m .locations) ≡ processors * instructionsEach
+  pub logValues : length (m .values) ≡ processors * instructionsEach
   pub issued : length (m .issued) ≡ processors
   pub drained : length (m .drained) ≡ processors
 

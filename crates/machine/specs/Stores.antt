@@ -5,14 +5,14 @@ use mathlib.Core.List.{List, [], _∷_}
 use Prim.Native.Nat.{ℕ, _+_}
 use lib.ListN.{getD, set}
 use lib.Dec.{eqb, leb}
+use Rattle.model.specs.Code.{placeAt, registerOf}
 use Rattle.model.specs.declared.record.Record.{Record}
 use Rattle.model.specs.Sizes.{locations}
 use Rattle.model.specs.Rules.{Event}
 use Rattle.rules.specs.Guards.{nobody}
 use Rattle.machine.specs.declared.state.Machine.{Machine}
 use Rattle.rules.specs.Steps.{stepCount}
-use Rattle.machine.specs.Arrays.{parts, registerOf}
-use Rattle.rules.specs.Offers.{logAt}
+use Rattle.machine.specs.Arrays.{parts}
 
 abbrev pub receivedRegisters : List ℕ → Record → ℕ → List ℕ
 receivedRegisters registers i v = cond (eqb (i .kind) 5) (set registers (registerOf i) v) registers
@@ -23,8 +23,8 @@ receivedKept kept i v = cond (eqb (i .kind) 5) kept (set kept (i .processor) v)
 abbrev pub exchangedRegisters : List ℕ → List ℕ → Record → List ℕ
 exchangedRegisters registers kept i = cond (leb 8 (i .kind)) (set registers (registerOf i) (getD kept (i .processor) 0)) registers
 
-abbrev pub placeOf : List ℕ → ℕ → ℕ
-placeOf issued p = logAt p (getD issued p 0)
+abbrev pub nextPlace : List ℕ → ℕ → ℕ
+nextPlace issued p = placeAt p (getD issued p 0)
 
 -- past one program step: the next one of the instruction or, after its last, the next instruction
 abbrev pub isLast : List ℕ → Record → Bool
@@ -55,8 +55,8 @@ receivedIn m i v =
 abbrev pub wroteIn : Machine → Record → Event → Machine
 wroteIn m i e =
     let p = i .processor in
-    parts (exchangedRegisters (m .registers) (m .kept) i) (m .memory) (m .kept) (m .at) (m .phase) (set (m .locations) (placeOf (m .issued) p) (e .location))
-    (set (m .values) (placeOf (m .issued) p) (e .value)) (set (m .issued) p (getD (m .issued) p 0 + 1)) (m .drained) (m .holder)
+    parts (exchangedRegisters (m .registers) (m .kept) i) (m .memory) (m .kept) (m .at) (m .phase) (set (m .locations) (nextPlace (m .issued) p) (e .location))
+    (set (m .values) (nextPlace (m .issued) p) (e .value)) (set (m .issued) p (getD (m .issued) p 0 + 1)) (m .drained) (m .holder)
 
 abbrev pub heldIn : Machine → ℕ → Machine
 heldIn m holder = parts (m .registers) (m .memory) (m .kept) (m .at) (m .phase) (m .locations) (m .values) (m .issued) (m .drained) holder

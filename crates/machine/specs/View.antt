@@ -10,17 +10,17 @@ use Rattle.model.specs.Sizes.{processors, registersEach}
 use Rattle.model.specs.Program.{ProgramStep}
 use Rattle.model.specs.Machine as model
 use Rattle.model.specs.Machine.{WaitingWrite, Processor, Holder, free, held}
-use Rattle.model.specs.Code.{row, four, stepsFrom, countIn}
+use Rattle.model.specs.Code.{placeAt, row, four, stepsFrom, countIn}
 use Rattle.rules.specs.Guards.{nobody}
-use Rattle.rules.specs.Offers.{writesIn, logAt}
+use Rattle.rules.specs.Offers.{writesIn}
 use Rattle.machine.specs.declared.state.Machine.{Machine}
 
 -- the writes of processor p that wait, oldest first
 unfoldable pub waitingIn : Machine → ℕ → List WaitingWrite
 unfolding writesIn
 waitingIn m p =
-    let oldest = logAt p (getD (m .drained) p 0) in
-    let end = logAt p (getD (m .issued) p 0) in
+    let oldest = placeAt p (getD (m .drained) p 0) in
+    let end = placeAt p (getD (m .issued) p 0) in
     writesIn (slice oldest end (m .locations)) (slice oldest end (m .values))
 
 -- what is left of its program

@@ -2,8 +2,8 @@
 ghost use mathlib.Core.Path.{_≡_};
 ghost use Prim.Native.Nat.{_+_};
 ghost use lib.ListN.{getD, set};
-ghost use Rattle.machine.specs.Arrays.{registerOf};
-ghost use Rattle.machine.specs.Stores.{receivedRegisters, receivedKept, exchangedRegisters, placeOf, nextAt, nextPhase};
+ghost use Rattle.model.specs.Code.{registerOf};
+ghost use Rattle.machine.specs.Stores.{receivedRegisters, receivedKept, exchangedRegisters, nextPlace, nextAt, nextPhase};
 ghost use Rattle.machine.specs.Ready.{Own, Issuable, Drainable, Onward};
 use model::record::Record;
 use model::table::Cells;
@@ -64,7 +64,7 @@ pub fn issue<'a>(
     v: u32,
 )
     requires { ⌜ Issuable (now issued) p ⌝ }
-    ensures { λ _. ⌜ (now (locations .exit) ≡ set (now (locations .entry)) (placeOf (now (issued .entry)) p) x) × (now (values .exit) ≡ set (now (values .entry)) (placeOf (now (issued .entry)) p) v) × (now (issued .exit) ≡ set (now (issued .entry)) p (getD (now (issued .entry)) p 0 + 1)) ⌝ }
+    ensures { λ _. ⌜ (now (locations .exit) ≡ set (now (locations .entry)) (nextPlace (now (issued .entry)) p) x) × (now (values .exit) ≡ set (now (values .entry)) (nextPlace (now (issued .entry)) p) v) × (now (issued .exit) ≡ set (now (issued .entry)) p (getD (now (issued .entry)) p 0 + 1)) ⌝ }
 {
     let q = p as usize;
     let n = issued[q];

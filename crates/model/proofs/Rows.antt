@@ -1,4 +1,4 @@
--- Parts and rows of flat arrays, where one element is set; four values as a list.
+-- Flat arrays: lists of one value, parts and rows where one element is set; four values as a list.
 use mathlib.Core.Path.{_≡_, refl, sym, ap, _∙_}
 use mathlib.Core.Bool.{Bool, true, false}
 use mathlib.Core.List.{List, [], _∷_, _++_, append-assoc, append-nil}
@@ -6,7 +6,7 @@ use Prim.Native.Nat.{ℕ, zero, suc, _+_, _*_, _≤_, _<_}
 use native.Mathlib.Nat.{mul-suc, mul-le-mul-left}
 use native.Mathlib.Omega.{arith}
 use lib.Dec.{ltb, lit<, lit≤}
-use lib.ListN.{length, getD, take, drop, set, take-append-drop}
+use lib.ListN.{length, getD, take, drop, set, replicate, take-append-drop}
 use lib.Seq.{slice, take-all, take-take, getD-take, getD-drop, take-set-lt, take-set-le, drop-set-add, drop-set-lt}
 use borrow.Author.Tests.{ltb-true, ltb-false}
 use Rattle.model.specs.Code.{row, four}
@@ -21,6 +21,13 @@ pub below : (n : ℕ) (K : ℕ → Type 0) → AllBelow n K → (k : ℕ) → k 
 below zero K a k h = absurd (omega arith)
 below (suc n) K a zero h = a .0
 below (suc n) K a (suc k) h = below n (λ j. K (suc j)) (a .1) k (omega arith)
+
+-- ---- lists of one value, also past the end
+
+pub alike : {A : Type 0} (a : A) (n k : ℕ) → getD (replicate n a) k a ≡ a
+alike a zero k = refl
+alike a (suc n) zero = refl
+alike a (suc n) (suc k) = alike a n k
 
 -- ---- a part a..b
 

@@ -33,6 +33,14 @@ pub record Gives (v : Verdict) (tests : List Test) (i : ℕ) : Type 0 where
 abbrev pub row : ℕ → ℕ → List ℕ → List ℕ
 row w p xs = slice (w * p) (w * p + w) xs
 
+-- the register of a record, among all registers
+abbrev pub registerOf : Record → ℕ
+registerOf r = registersEach * r .processor + r .register
+
+-- place n of processor p, in an array that has room for all instructions
+abbrev pub placeAt : ℕ → ℕ → ℕ
+placeAt p n = instructionsEach * p + n
+
 -- one for each processor
 abbrev pub four : {A : Type 0} → (ℕ → A) → List A
 four f = f 0 ∷ f 1 ∷ f 2 ∷ f 3 ∷ []
@@ -49,7 +57,7 @@ stepsIn (instruction p i) = stepsOf i
 -- instruction a of processor p, as its table record gave it
 unfoldable pub instructionAt : Program → ℕ → ℕ → Record
 instructionAt g p a =
-    let at = instructionsEach * p + a in
+    let at = placeAt p a in
     record {
       kind = getD (g .kinds) at 0;
       processor = p;

@@ -5,10 +5,11 @@ use Prim.Native.Nat.{ℕ, _-_}
 use native.Mathlib.Omega.{arith}
 use lib.ListN.{take, drop}
 use borrow.Author.Tests.{ne-eqb}
+use Rattle.model.specs.Code.{placeAt}
 use Rattle.model.specs.declared.record.Record.{Record}
 use Rattle.model.specs.Rules.{Event, event}
 use Rattle.model.specs.Step.{newest}
-use Rattle.rules.specs.Offers.{writesIn, logAt, nextIn, Log}
+use Rattle.rules.specs.Offers.{writesIn, nextIn, Log}
 use Rattle.rules.specs.Guards.{issuedBy}
 use Rattle.rules.proofs.Lookup.{part-is}
 
@@ -18,7 +19,7 @@ module _ (xs vs : List ℕ) (issued drained kept register memory : ℕ) (i : Rec
 
   -- the part of a column that the code looks at
   abbrev part : List ℕ → List ℕ
-  part l = let p = i .processor in take (logAt p issued - logAt p drained) (drop (logAt p drained) l)
+  part l = let p = i .processor in take (placeAt p issued - placeAt p drained) (drop (placeAt p drained) l)
 
   pub read-is : Log xs vs issued drained (i .processor) → (next : ℕ) → next ≡ 1 → (v : ℕ) → v ≡ newest (writesIn (part xs) (part vs)) (i .location) memory
       → (e : Event) → e ≡ event 1 (i .processor) (i .location) v → Next next e
@@ -27,8 +28,8 @@ module _ (xs vs : List ℕ) (issued drained kept register memory : ℕ) (i : Rec
       let o = l .order in
       let few = l .few in
       let p = l .processor in
-      let a = part-is (logAt (i .processor) drained) (logAt (i .processor) issued) xs (omega arith) (rw (l .locations) (omega arith)) in
-      let b = part-is (logAt (i .processor) drained) (logAt (i .processor) issued) vs (omega arith) (rw (l .values) (omega arith)) in
+      let a = part-is (placeAt (i .processor) drained) (placeAt (i .processor) issued) xs (omega arith) (rw (l .locations) (omega arith)) in
+      let b = part-is (placeAt (i .processor) drained) (placeAt (i .processor) issued) vs (omega arith) (rw (l .values) (omega arith)) in
       rw k (g ∙ ap (event 1 (i .processor) (i .location)) (f ∙ (λ j. newest (writesIn (a j) (b j)) (i .location) memory)))
 
   pub write-is : (next : ℕ) → next ≡ 2 → (v : ℕ) → v ≡ issuedBy i kept register → (e : Event) → e ≡ event 2 (i .processor) (i .location) v → Next next e

@@ -21,6 +21,7 @@ use Rattle.model.specs.Reading.{any, isInstruction, givesMemory, givesRegister,
 use Rattle.model.specs.Code.{countIn, stepsFrom, processorAtStart, startOf, Fits, Sized}
 use Rattle.model.proofs.Bools.{one}
 use Rattle.model.proofs.Readable.{isOf}
+use Rattle.model.proofs.Rows.{alike}
 use Rattle.table.specs.declared.given.Given.{Given}
 use Rattle.model.specs.Reading.{ownTests}
 use Rattle.table.specs.Given.{Formed, nothingGiven, crowdedIn, placeTests, memoryNoted, registerNoted, instructionNoted, notedIn}
@@ -28,7 +29,7 @@ use Rattle.table.specs.Enter.{noProgram, noCells, withMemory, withRegist
 use Rattle.table.proofs.Forms.{formed, room, rec, entry-instruction}
 use Rattle.table.proofs.Entering.{memory-entered, register-entered, instruction-entered}
 use Rattle.table.proofs.Fitting.{fits-more, count-up}
-use Rattle.table.proofs.More.{any-more, instructions-more, start-more, alike, flag-up, cells-apart}
+use Rattle.table.proofs.More.{any-more, instructions-more, start-more, flag-up, cells-apart}
 
 pub record Holds (g : Program) (c : Cells) (s : Given) (es : List Entry) : Type 0 where
   pub machine : startOf g c ≡ start es

@@ -2,9 +2,9 @@
 use mathlib.Core.Path.{_≡_, refl, sym, ap, _∙_}
 use mathlib.Core.Bool.{Bool, true, false, _||_, _&&_, or-false, or-true, or-assoc}
 use mathlib.Core.List.{List, [], _∷_, _++_}
-use Prim.Native.Nat.{ℕ, zero, suc, _+_, _*_, _<_}
+use Prim.Native.Nat.{ℕ, _+_, _*_, _<_}
 use native.Mathlib.Omega.{arith}
-use lib.ListN.{length, getD, set, replicate}
+use lib.ListN.{length, getD, set}
 use lib.Seq.{getD-set-same, getD-set-other}
 use lib.Dec.{eqb}
 use borrow.Author.Tests.{eqb-true, eqb-false, eq-eqb, ne-eqb}
@@ -41,13 +41,7 @@ pub start-more : (es : List Entry) (e : Entry) → start (es ++ (e ∷ [])) ≡ 
 unfolding start
 start-more es e = enter-more _ es e
 
--- ---- lists of one value, and a flag put up
-
--- also past the end
-pub alike : {A : Type 0} (a : A) (n k : ℕ) → getD (replicate n a) k a ≡ a
-alike a zero k = refl
-alike a (suc n) zero = refl
-alike a (suc n) (suc k) = alike a n k
+-- ---- a flag put up
 
 pub flag-up : (l : List Bool) (i x : ℕ) (b : Bool) → i < length l → getD l x false ≡ b → getD (set l i true) x false ≡ b || eqb i x
 flag-up l i x b h e = go (eqb i x) refl

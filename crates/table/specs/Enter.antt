@@ -7,7 +7,7 @@ use Rattle.model.specs.declared.record.Record.{Record}
 use Rattle.model.specs.declared.table.Program.{Program}
 use Rattle.model.specs.declared.table.Cells.{Cells}
 use Rattle.model.specs.Sizes.{processors, registersEach, locations, instructionsEach}
-use Rattle.model.specs.Code.{countIn}
+use Rattle.model.specs.Code.{registerOf, placeAt, countIn}
 
 abbrev pub noProgram : Program
 noProgram = record {
@@ -25,12 +25,12 @@ abbrev pub withMemory : Cells → Record → Cells
 withMemory cells r = record { registers = cells .registers; memory = set (cells .memory) (r .location) (r .value) }
 
 abbrev pub withRegister : Cells → Record → Cells
-withRegister cells r = record { registers = set (cells .registers) (registersEach * r .processor + r .register) (r .value); memory = cells .memory }
+withRegister cells r = record { registers = set (cells .registers) (registerOf r) (r .value); memory = cells .memory }
 
 abbrev pub withInstruction : Program → Record → Program
 withInstruction program r =
     let n = countIn program (r .processor) in
-    let at = instructionsEach * r .processor + n in
+    let at = placeAt (r .processor) n in
     record {
       kinds = set (program .kinds) at (r .kind);
       registers = set (program .registers) at (r .register);

@@ -8,7 +8,7 @@ use Rattle.model.specs.declared.record.Record.{Record}
 use Rattle.model.specs.declared.table.Program.{Program}
 use Rattle.model.specs.Sizes.{processors, registersEach, locations, instructionsEach}
 use Rattle.model.specs.Kinds.{tableRows}
-use Rattle.model.specs.Code.{countIn}
+use Rattle.model.specs.Code.{registerOf, countIn}
 use Rattle.model.specs.Tests.{Test, test}
 use Rattle.table.specs.declared.given.Given.{Given}
 
@@ -49,7 +49,7 @@ memoryNoted given r = record { registers = given .registers; memory = set (given
 
 abbrev pub registerNoted : Given → Record → Given
 registerNoted given r = record {
-  registers = set (given .registers) (registersEach * r .processor + r .register) true;
+  registers = set (given .registers) (registerOf r) true;
   memory = given .memory;
   instruction = given .instruction;
 }
