@@ -1,4 +1,4 @@
--- The reply to a check, from where the trace leads.
+-- The reply to a call, from where the trace leads.
 use mathlib.Core.Path.{_≡_, sym, ap, _∙_}
 use mathlib.Core.Bool.{Bool, true, false, not}
 use mathlib.Core.List.{List, _++_}
@@ -12,15 +12,20 @@ use Rattle.model.specs.declared.answer.Verdict.{Verdict}
 use Rattle.model.specs.declared.answer.Verdict.the-variants.{Passed, Refused}
 use Rattle.model.specs.declared.table.Program.{Program}
 use Rattle.model.specs.Tests.{passed, refused}
+use Rattle.model.specs.Record.{records}
+use Rattle.model.specs.Machine as model
 use Rattle.model.specs.Finish.{isFinished}
 use Rattle.model.specs.Reply.{Reply, done, refuse, numberOf}
-use Rattle.model.specs.Calls.{tried, replied, written, reported, checkedAt, checked}
+use Rattle.model.specs.Calls.{tried, replied, written, reported, checkedAt, checked, completedAt, completed}
 use Rattle.model.specs.Code.{testedOf}
 use Rattle.model.proofs.Bytes.{length-records}
+use Rattle.model.proofs.Runs.{reached-orderly}
+use Rattle.model.proofs.Numbers.{tried-follows}
 use Rattle.machine.specs.declared.state.Machine.{Machine}
 use Rattle.machine.specs.View.{machineOf}
 use Rattle.machine.specs.Ready.{Ready}
 use Rattle.machine.proofs.Ends.{words-are}
+use Rattle.completion.specs.Finishing.{Underway}
 use Rattle.checker.specs.declared.tried.Tried.{Tried}
 use Rattle.checker.specs.Tries.{Tries}
 
@@ -54,17 +59,36 @@ module _ (g : Program) (m : Machine) (ready : Ready g m) (steps : ℕ) (room : L
       ∙ ap (λ (c : List ℕ). c ++ drop 24 room) (sym (words-are g m ready))
       ))
 
--- ---- the whole check
+-- ---- the whole call, which replies with f where the trace leads
 
 module _ (table trace room : List ℕ) (t : Tried) (tries : Tries table trace t) where
-  pub refuses : (why : Refusal) (place : ℕ) → t .verdict ≡ Refused why place → refuse (numberOf why) place room ≡ checked table trace room
-  unfolding checked replied
-  refuses why place e =
-      let r : tried table trace ≡ refused (numberOf why) place = sym (tries .says) ∙ ap (λ (v : Verdict). testedOf v (machineOf (t .program) (t .machine))) e in
+  abbrev reached : model.Machine
+  reached = machineOf (t .program) (t .machine)
+
+  leads : t .verdict ≡ Passed → tried table trace ≡ passed reached
+  leads e = sym (tries .says) ∙ ap (λ (v : Verdict). testedOf v reached) e
+
+  pub refuses : (f : model.Machine → Reply) (why : Refusal) (place : ℕ) → t .verdict ≡ Refused why place → refuse (numberOf why) place room ≡ replied room (tried table trace) f
+  unfolding replied
+  refuses f why place e =
+      let r : tried table trace ≡ refused (numberOf why) place = sym (tries .says) ∙ ap (λ (v : Verdict). testedOf v reached) e in
       rw r
 
-  pub replies : t .verdict ≡ Passed → (r : Reply) → r ≡ reported (length trace / 8) room (machineOf (t .program) (t .machine)) → r ≡ checked table trace room
-  unfolding checked replied checkedAt reported
-  replies e r f =
-      let p : tried table trace ≡ passed (machineOf (t .program) (t .machine)) = sym (tries .says) ∙ ap (λ (v : Verdict). testedOf v (machineOf (t .program) (t .machine))) e in
-      f ∙ rw (p, length-records trace)
+  replies : (f : model.Machine → Reply) → t .verdict ≡ Passed → (r : Reply) → r ≡ f reached → r ≡ replied room (tried table trace) f
+  unfolding replied
+  replies f e r q = q ∙ rw (leads e)
+
+  -- checking
+  pub checks : t .verdict ≡ Passed → (r : Reply) → r ≡ reported (length trace / 8) room reached → r ≡ checked table trace room
+  unfolding checked checkedAt
+  checks e r q = replies (checkedAt trace room) e r (q ∙ rw (length-records trace))
+
+  -- finishing: from a state that a run reaches
+  pub underway : t .verdict ≡ Passed → Underway (t .program) (t .machine)
+  underway e =
+      let f = tried-follows table trace reached .0 (leads e) in
+      record { ready = tries .ready; orderly = reached-orderly (f .entries) (records trace) reached (f .run) }
+
+  pub finishes : t .verdict ≡ Passed → (r : Reply) → r ≡ completedAt room reached → r ≡ completed table trace room
+  unfolding completed
+  finishes e r q = replies (completedAt room) e r q

@@ -17,7 +17,7 @@ use Rattle.table.specs.declared.read.Read.{Read}
 use Rattle.table.specs.Reads.{Reads}
 use Rattle.table.proofs.Told.{read-passed, read-refused}
 use Rattle.checker.specs.declared.tried.Tried.{Tried}
-use Rattle.checker.specs.Follows.{FollowsTo}
+use Rattle.following.specs.Follows.{FollowsTo}
 use Rattle.checker.specs.Tries.{Tries}
 
 module _ (table trace : List ℕ) (r : Read) (reads : Reads table r) (s : Machine) (start : s ≡ startIn (r .cells)) where

@@ -1,6 +1,5 @@
 // The calls: a table, a trace and a lent room in, a stated answer out.
 pub mod check;
-mod follow;
+pub mod finish;
 mod report;
-mod trace;
 mod tried;

@@ -1,9 +1,9 @@
 // The table is read, and the trace followed from its start.
 ghost use mathlib.Core.Path.{_≡_};
 ghost use Rattle.machine.specs.Ready.{Ready};
-ghost use Rattle.checker.specs.Follows.{FollowsTo};
+ghost use Rattle.following.specs.Follows.{FollowsTo};
 ghost use Rattle.checker.specs.Tries.{Tries};
-use crate::follow;
+use following::follow;
 use machine::state::Machine;
 use model::answer::Verdict;
 use model::table::Program;

@@ -1,3 +1,2 @@
 // What the listing program does: reads table.rec and trace.rec, checks, and writes the reply as text.
-pub mod files;
 pub mod show;

@@ -6,25 +6,12 @@ ghost use Rattle.model.specs.Calls.{checked};
 ghost use Rattle.model.specs.Sizes.{resultWords};
 ghost use Rattle.text.specs.Reply.{listed};
 ghost use Rattle.text.specs.Text.{Adds};
-use crate::files;
-use crate::files::File;
-use crate::files::read_file;
-use libc::STDOUT_FILENO;
+use files::read;
+use files::say::read_or_say;
+use files::say::say;
 use model::table::Cells;
 use text::reply;
 use text::reply::put_reply;
-
-fn say(text: &[u8]) {
-    io::write_all(STDOUT_FILENO, text);
-}
-
-fn say_missing() {
-    say(b"no file\n");
-}
-
-fn say_too_long() {
-    say(b"file too long\n");
-}
 
 // Checks, and puts the listing at the start of out. Answers its length.
 pub fn put_listing(out: &mut [u8], table: &[u8], trace: &[u8]) -> usize
@@ -43,22 +30,18 @@ fn show_reply(table: &[u8], trace: &[u8]) {
     say(&text[..n]);
 }
 
-fn show_trace(table: &[u8]) {
-    let mut trace = [0u8; files::ROOM];
-    let file = read_file(b"trace.rec", &mut trace);
-    match file {
-        File::Whole(n) => show_reply(table, &trace[..n]),
-        File::TooLong => say_too_long(),
-        File::Missing => say_missing(),
-    }
-}
-
 pub fn show() {
-    let mut table = [0u8; files::ROOM];
-    let file = read_file(b"table.rec", &mut table);
-    match file {
-        File::Whole(n) => show_trace(&table[..n]),
-        File::TooLong => say_too_long(),
-        File::Missing => say_missing(),
+    let mut table = [0u8; read::ROOM];
+    let got = read_or_say(b"table.rec", &mut table);
+    if !got.whole {
+        return;
     }
+    let mut trace = [0u8; read::ROOM];
+    let more = read_or_say(b"trace.rec", &mut trace);
+    if !more.whole {
+        return;
+    }
+    let n = got.length;
+    let k = more.length;
+    show_reply(&table[..n], &trace[..k]);
 }

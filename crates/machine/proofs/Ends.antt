@@ -39,11 +39,11 @@ module _ (g : Program) (m : Machine) (ready : Ready g m) where
       go true e = let z = eqb-true a (countIn g p) e in rw (none-left g p a (getD (m .phase) p 0) (omega arith))
       go false e =
           let n = eqb-false a (countIn g p) e in
-          let o = r .at in
+          let o = r .stands .at in
           let l : a < countIn g p = omega arith in
-          rw (next-left g p a (getD (m .phase) p 0) (ready .fits .each p a h l .high) l (r .inside l))
+          rw (next-left g p a (getD (m .phase) p 0) (ready .fits .each p a h l .high) l (r .stands .inside l))
 
-  done-is : (p : ℕ) → p < processors → isDone (processorOf g m p) ≡ done p
+  pub done-is : (p : ℕ) → p < processors → isDone (processorOf g m p) ≡ done p
   unfolding isDone processorOf
   done-is p h =
       let r = ready .each p h in

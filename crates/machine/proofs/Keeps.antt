@@ -6,7 +6,7 @@ use Prim.Native.Nat.{ℕ, suc, _+_, _≤_, _<_}
 use native.Mathlib.Omega.{arith}
 use lib.ListN.{getD, set}
 use lib.Seq.{getD-set-same, getD-set-other}
-use lib.Dec.{eqb, leb, lit<}
+use lib.Dec.{eqb, leb}
 use borrow.Author.Tests.{eqb-true, eqb-false}
 use Rattle.model.specs.declared.record.Record.{Record}
 use Rattle.model.specs.declared.table.Program.{Program}
@@ -14,15 +14,16 @@ use Rattle.model.specs.Program.{ProgramStep}
 use Rattle.model.specs.Sizes.{processors, locations}
 use Rattle.model.specs.Left.{writes}
 use Rattle.model.specs.Code.{instructionAt, countIn}
+use Rattle.model.proofs.Lists.{each}
 use Rattle.machine.specs.declared.state.Machine.{Machine}
 use Rattle.machine.specs.View.{todoIn}
 use Rattle.rules.specs.Steps.{stepKind, stepCount}
 use Rattle.machine.specs.Arrays.{nextOf}
 use Rattle.rules.specs.Offers.{nextIn}
-use Rattle.machine.specs.Stores.{isLast, nextAt, nextPhase, advancedIn, assignedIn, heldIn, carriedOut}
-use Rattle.machine.specs.Ready.{Long, ReadyAt, Ready}
+use Rattle.machine.specs.Stores.{nextPlace, isLast, nextAt, nextPhase, advancedIn, assignedIn, heldIn, carriedOut}
+use Rattle.machine.specs.Ready.{Long, Stands, ReadyAt, Ready}
 use Rattle.rules.specs.Programs.{Fetched}
-use Rattle.machine.proofs.Todo.{stepFor, by-kind, few-steps, some-steps}
+use Rattle.machine.proofs.Todo.{stepFor, by-kind, stands-next}
 use Rattle.machine.proofs.Changes.{at-next, at-other}
 use Rattle.machine.proofs.Sim.{is-instruction, rest, todo-next, goes-on}
 use Rattle.machine.proofs.Lengths.{set-long, either-long, stored-long, advanced-long}
@@ -53,16 +54,18 @@ module _ (g : Program) (m : Machine) (ready : Ready g m) (i : Record) (here : Fe
       pub phase : c .phase ≡ m .phase
       pub drained : c .drained ≡ m .drained
       pub long : Long c
+      pub inLog : (x : ℕ) → getD (c .locations) x 0 < locations
       pub others : (q : ℕ) → ¬ (q ≡ p) → getD (c .issued) q 0 ≡ getD (m .issued) q 0
       pub more : n ≤ getD (c .issued) p 0
       pub room : getD (c .issued) p 0 + writes left ≡ n + writes (todoIn g m p)
 
-    still : (c : Machine) → c .at ≡ m .at → c .phase ≡ m .phase → c .drained ≡ m .drained → Long c → c .issued ≡ m .issued → writes (todoIn g m p) ≡ writes left → Carried c
-    still c ea ef ed lc en w = record {
+    still : (c : Machine) → c .at ≡ m .at → c .phase ≡ m .phase → c .drained ≡ m .drained → Long c → c .locations ≡ m .locations → c .issued ≡ m .issued → writes (todoIn g m p) ≡ writes left → Carried c
+    still c ea ef ed lc ex en w = record {
       at = ea;
       phase = ef;
       drained = ed;
       long = lc;
+      inLog = rw ex (ready .inLog);
       others = λ q x. ap (λ (l : List ℕ). getD l q 0) en;
       more = rw en (omega arith);
       room = rw (en, w);
@@ -76,7 +79,7 @@ module _ (g : Program) (m : Machine) (ready : Ready g m) (i : Record) (here : Fe
     carries-read e =
         still _ refl refl refl
         (stored-long m (ready .long) _ _ _ _ _ _ (either-long (eqb (i .kind) 5) _ _ 16 (set-long (m .registers) _ _ 16 (ready .long .registers)) (ready .long .registers)) (either-long (eqb (i .kind) 5) _ _ 4 (ready .long .kept) (set-long (m .kept) _ _ 4 (ready .long .kept))) (ready .long .logLocations) (ready .long .logValues) (ready .long .issued))
-        refl (ap writes e)
+        refl refl (ap writes e)
 
     carries-write : Carries 2
     unfolding carriedOut nextIn writes
@@ -88,6 +91,7 @@ module _ (g : Program) (m : Machine) (ready : Ready g m) (i : Record) (here : Fe
           phase = refl;
           drained = refl;
           long = stored-long m (ready .long) _ _ _ _ _ _ (either-long (leb 8 (i .kind)) _ _ 16 (set-long (m .registers) _ _ 16 (ready .long .registers)) (ready .long .registers)) (ready .long .kept) (set-long (m .locations) _ _ 64 (ready .long .logLocations)) (set-long (m .values) _ _ 64 (ready .long .logValues)) (set-long (m .issued) _ _ 4 (ready .long .issued));
+          inLog = each 0 (λ k x. x < locations) (m .locations) (nextPlace (m .issued) p) (i .location) (ready .inLog) (here .location);
           others = λ q x. getD-set-other (m .issued) p q (n + 1) 0 x;
           more = rw own (omega arith);
           room = rw (own, w) (omega arith);
@@ -98,27 +102,27 @@ module _ (g : Program) (m : Machine) (ready : Ready g m) (i : Record) (here : Fe
 
     carries-fence : Carries 4
     unfolding carriedOut nextIn writes
-    carries-fence e = still m refl refl refl (ready .long) refl (ap writes e)
+    carries-fence e = still m refl refl refl (ready .long) refl refl (ap writes e)
 
     carries-lock : Carries 5
     unfolding carriedOut nextIn writes
-    carries-lock e = still (heldIn m p) refl refl refl (held-long p) refl (ap writes e)
+    carries-lock e = still (heldIn m p) refl refl refl (held-long p) refl refl (ap writes e)
 
     carries-unlock : Carries 6
     unfolding carriedOut nextIn writes
-    carries-unlock e = still (heldIn m processors) refl refl refl (held-long processors) refl (ap writes e)
+    carries-unlock e = still (heldIn m processors) refl refl refl (held-long processors) refl refl (ap writes e)
 
     carries-local : Carries 7
     unfolding carriedOut nextIn writes
     carries-local e =
         still (assignedIn m i (i .value)) refl refl refl
         (stored-long m (ready .long) _ _ _ _ _ _ (set-long (m .registers) _ _ 16 (ready .long .registers)) (ready .long .kept) (ready .long .logLocations) (ready .long .logValues) (ready .long .issued))
-        refl (ap writes e)
+        refl refl (ap writes e)
 
     pub carries : Carried (carriedOut m i (nextOf m i (stepKind (i .kind) f)))
     carries =
         by-kind Carries carries-read carries-write carries-fence carries-lock carries-unlock carries-local (i .kind) f (here .kind)
-        (rw (ap (λ (r : Record). r .kind) (is-instruction g m ready i here h l)) (at .inside l)) (todo-next g m ready i here h l)
+        (rw (ap (λ (r : Record). r .kind) (is-instruction g m ready i here h l)) (at .stands .inside l)) (todo-next g m ready i here h l)
 
     -- ---- and the program goes on
 
@@ -135,25 +139,11 @@ module _ (g : Program) (m : Machine) (ready : Ready g m) (i : Record) (here : Fe
       kind-is : i .kind ≡ instructionAt g p a .kind
       kind-is = ap (λ (r : Record). r .kind) (is-instruction g m ready i here h l)
 
-      abbrev Stands : ℕ → ℕ → Type 0
-      Stands a f = (a ≤ countIn g p) × (f < 4) × (a < countIn g p → f < stepCount (instructionAt g p a .kind))
-
-      stands : (b : Bool) → last ≡ b → Stands (cond b (a + 1) a) (cond b 0 (f + 1))
-      stands true e = (
-        omega arith,
-        lit< tt,
-        λ o. let t = ready .fits .each p (a + 1) h o in some-steps (instructionAt g p (a + 1) .kind) (t .high) (t .low),
-      )
-      stands false e =
-          let o : f < stepCount (i .kind) = rw kind-is (at .inside l) in
-          let x = eqb-false (f + 1) (stepCount (i .kind)) e in
-          let y = few-steps (i .kind) in
-          let z : f + 1 < stepCount (i .kind) = omega arith in
-          (omega arith, omega arith, λ q. rw (sym kind-is) z)
+      stands : Stands g p (cond last (a + 1) a) (cond last 0 (f + 1))
+      stands = stands-next g p a f (ready .fits) h (at .stands) l last (ap (λ (k : ℕ). eqb (f + 1) (stepCount k)) (sym kind-is))
 
       ready-own : ReadyAt g (advancedIn c i) p
       ready-own =
-          let s = stands last refl in
           let o = at .order in
           let r = k .room in
           let w = at .room in
@@ -161,9 +151,7 @@ module _ (g : Program) (m : Machine) (ready : Ready g m) (i : Record) (here : Fe
           record {
             order = rw (k .drained) (omega arith);
             room = rw (goes-on g m ready i here h l c (k .at) (k .phase)) (omega arith);
-            at = rw at-is (s .0);
-            phase = rw phase-is (s .1);
-            inside = rw (at-is, phase-is) (s .2);
+            stands = rw (at-is, phase-is) stands;
           }
 
       todo-other : (q : ℕ) → ¬ (q ≡ p) → todoIn g (advancedIn c i) q ≡ todoIn g m q
@@ -178,13 +166,11 @@ module _ (g : Program) (m : Machine) (ready : Ready g m) (i : Record) (here : Fe
           record {
             order = rw (k .drained, k .others q x) (y .order);
             room = rw (k .others q x, todo-other q x) (y .room);
-            at = rw ea (y .at);
-            phase = rw ef (y .phase);
-            inside = rw (ea, ef) (y .inside);
+            stands = rw (ea, ef) (y .stands);
           }
 
       pub ready-advanced : Ready g (advancedIn c i)
-      ready-advanced = record { fits = ready .fits; long = advanced-long c (k .long) i; each = λ q o. go q o (eqb q p) refl }
+      ready-advanced = record { fits = ready .fits; long = advanced-long c (k .long) i; inLog = k .inLog; each = λ q o. go q o (eqb q p) refl }
         where
           go : (q : ℕ) → q < processors → (b : Bool) → eqb q p ≡ b → ReadyAt g (advancedIn c i) q
           go q o true e = rw (eqb-true q p e) ready-own

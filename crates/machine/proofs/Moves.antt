@@ -63,7 +63,7 @@ module _ (g : Program) (m : Machine) (ready : Ready g m) (i : Record) (own : Own
   unfolding processorOf
   waiting-is = ap (λ (P : Processor). P .waiting) processor-here
 
-  empty-is : isEmpty (processor M p .waiting) ≡ eqb d n
+  pub empty-is : isEmpty (processor M p .waiting) ≡ eqb d n
   empty-is = ap isEmpty waiting-is ∙ waits-none m p (own .processor) (ready .long) (at .order) few
 
   -- ---- the drain

@@ -77,7 +77,7 @@ module _ (g : Program) (m : Machine) (ready : Ready g m) (i : Record) (here : Fe
 
     pub todo-next : todoIn g m p ≡ stepFor i (stepKind (i .kind) f) ∷ rest
     unfolding todoIn
-    todo-next = next-left g p a f high l (at .inside l) ∙ (λ j. stepFor (sym (is-instruction l) j) (stepKind (sym kind-is j) f) ∷ rest)
+    todo-next = next-left g p a f high l (at .stands .inside l) ∙ (λ j. stepFor (sym (is-instruction l) j) (stepKind (sym kind-is j) f) ∷ rest)
 
     pub goes-on : (o : Machine) → o .at ≡ m .at → o .phase ≡ m .phase → todoIn g (advancedIn o i) p ≡ rest
     unfolding todoIn
@@ -88,7 +88,7 @@ module _ (g : Program) (m : Machine) (ready : Ready g m) (i : Record) (here : Fe
           at-next g (m .at) (m .phase) i (rw (ready .long .at) h),
           getD-set-same (m .phase) p (cond (isLast (m .phase) i) 0 (f + 1)) 0 (rw (ready .long .phase) h),
         )
-        (rest-left g p a f high l (at .inside l) (isLast (m .phase) i) (ap (λ (k : ℕ). eqb (f + 1) (stepCount k)) (sym kind-is)))
+        (rest-left g p a f high l (at .stands .inside l) (isLast (m .phase) i) (ap (λ (k : ℕ). eqb (f + 1) (stepCount k)) (sym kind-is)))
 
   -- ---- past its end
 
@@ -113,7 +113,7 @@ module _ (g : Program) (m : Machine) (ready : Ready g m) (i : Record) (here : Fe
       go true e =
           let l = ltb-true a (countIn g p) e in
           ap (nextMove M p) (todo-next l)
-          ∙ offers g m ready i own (here .kind) (rest l) (goes-on l) (i .kind) f (here .kind) (rw (kind-is l) (at .inside l)) (todo-next l)
+          ∙ offers g m ready i own (here .kind) (rest l) (goes-on l) (i .kind) f (here .kind) (rw (kind-is l) (at .stands .inside l)) (todo-next l)
       go false e = ap (nextMove M p) (past (ltb-false a (countIn g p) e)) ∙ none-offered (ltb-false a (countIn g p) e)
 
   -- ---- the step

@@ -8,7 +8,7 @@ use lib.Dec.{lit<}
 use Rattle.model.specs.declared.table.Program.{Program}
 use Rattle.model.specs.declared.table.Cells.{Cells}
 use Rattle.model.specs.Sizes.{processors, registersEach}
-use Rattle.model.specs.Code.{row, instructionAt, stepsFrom, countIn, processorAtStart, startOf, Fits, Sized}
+use Rattle.model.specs.Code.{row, stepsFrom, countIn, processorAtStart, startOf, Fits, Sized}
 use Rattle.model.proofs.Columns.{few-writes}
 use Rattle.model.proofs.Rows.{alike}
 use Rattle.machine.specs.declared.state.Machine.{Machine}
@@ -16,7 +16,7 @@ use Rattle.machine.specs.View.{waitingIn, todoIn, processorOf, holderOf,
 use Rattle.machine.specs.Arrays.{startIn}
 use Rattle.machine.specs.Ready.{Ready}
 use Rattle.rules.proofs.Lookup.{part-none}
-use Rattle.machine.proofs.Todo.{some-steps}
+use Rattle.machine.proofs.Todo.{stands-first}
 
 module _ (g : Program) (c : Cells) where
   start-todo : (p : ℕ) → todoIn g (startIn c) p ≡ stepsFrom g p 0 (countIn g p)
@@ -48,11 +48,10 @@ module _ (g : Program) (c : Cells) where
   start-ready s z = record {
     fits = s;
     long = record { registers = z .registers; memory = z .memory; kept = refl; at = refl; phase = refl; logLocations = refl; logValues = refl; issued = refl; drained = refl };
+    inLog = λ n. rw (alike {A = ℕ} 0 64 n) (lit< tt);
     each = λ p h. record {
       order = omega arith;
       room = let w = few-writes g p 0 (countIn g p) in let few = s .few p in rw (alike {A = ℕ} 0 4 p, start-todo p) (omega arith);
-      at = rw (alike {A = ℕ} 0 4 p) (omega arith);
-      phase = rw (alike {A = ℕ} 0 4 p) (lit< tt);
-      inside = rw (alike {A = ℕ} 0 4 p) (λ l. let t = s .each p 0 h l in some-steps (instructionAt g p 0 .kind) (t .high) (t .low));
+      stands = rw (alike {A = ℕ} 0 4 p) (stands-first g p 0 s h (omega arith));
     };
   }

@@ -1,17 +1,17 @@
 -- A step that is taken may be stored, and keeps what holds of the arrays at every step.
-use mathlib.Core.Path.{_≡_, refl, sym, ap, _∙_}
+use mathlib.Core.Path.{_≡_, refl, sym, ap, _∙_, subst}
 use mathlib.Core.Bool.{Bool, true, false, cond}
 use mathlib.Core.List.{_∷_}
 use Prim.Native.Nat.{ℕ, suc, _+_, _<_}
 use native.Mathlib.Omega.{arith}
 use lib.ListN.{getD}
 use lib.Seq.{getD-set-same, getD-set-other}
-use lib.Dec.{eqb, ltb}
+use lib.Dec.{eqb, ltb, lit<}
 use borrow.Author.Tests.{eqb-true, eqb-false, ne-eqb, ltb-true, ltb-false}
 use Rattle.model.specs.declared.record.Record.{Record}
 use Rattle.model.specs.declared.table.Program.{Program}
 use Rattle.model.specs.Program.{write}
-use Rattle.model.specs.Sizes.{processors, instructionsEach}
+use Rattle.model.specs.Sizes.{processors, locations, instructionsEach}
 use Rattle.model.specs.Left.{writes}
 use Rattle.model.specs.Rules.{Event, event}
 use Rattle.model.specs.Step.{same}
@@ -23,10 +23,10 @@ use Rattle.rules.specs.Steps.{stepsOfKind, stepKind}
 use Rattle.machine.specs.Arrays.{oldestOf, nextOf, offeredOf}
 use Rattle.rules.specs.Offers.{nextIn, oldestIn, offeredIn}
 use Rattle.machine.specs.Stores.{drainedIn, carriedOut, afterEvent}
-use Rattle.machine.specs.Ready.{Own, Onward, Storable, ReadyAt, Ready, WellFormed}
+use Rattle.machine.specs.Ready.{Own, Onward, Storable, ReadyAt, Ready}
 use Rattle.rules.specs.Programs.{Fetched}
-use Rattle.machine.proofs.Todo.{stepFor}
-use Rattle.machine.proofs.Sim.{is-none, rest, todo-next, allowed}
+use Rattle.machine.proofs.Todo.{stepFor, by-kind}
+use Rattle.machine.proofs.Sim.{is-instruction, is-none, rest, todo-next, allowed}
 use Rattle.machine.proofs.Lengths.{drained-long}
 use Rattle.machine.proofs.Keeps.{carries, ready-advanced}
 
@@ -48,17 +48,20 @@ module _ (g : Program) (m : Machine) (ready : Ready g m) (i : Record) (here : Fe
 
   -- ---- the program step that is offered
 
-  next-fields : (k : ℕ) → (nextOf m i k .kind ≡ k) × (nextOf m i k .processor ≡ p)
+  abbrev Fields : Event → ℕ → Type 0
+  Fields e k = (e .kind ≡ k) × (e .processor ≡ p) × (e .location < locations)
+
+  next-fields : (k : ℕ) → Fields (nextOf m i k) k
   unfolding nextIn
   next-fields k = go (eqb k 1) refl (eqb k 2) refl _ _
     where
       x : ℕ
       x = i .location
 
-      go : (b : Bool) → eqb k 1 ≡ b → (c : Bool) → eqb k 2 ≡ c → (v w : ℕ) → (cond b (event 1 p x v) (cond c (event 2 p x w) (event k p 0 0)) .kind ≡ k) × (cond b (event 1 p x v) (cond c (event 2 p x w) (event k p 0 0)) .processor ≡ p)
-      go true e c y v w = (sym (eqb-true k 1 e), refl)
-      go false e true y v w = (sym (eqb-true k 2 y), refl)
-      go false e false y v w = (refl, refl)
+      go : (b : Bool) → eqb k 1 ≡ b → (c : Bool) → eqb k 2 ≡ c → (v w : ℕ) → Fields (cond b (event 1 p x v) (cond c (event 2 p x w) (event k p 0 0))) k
+      go true e c y v w = (sym (eqb-true k 1 e), refl, here .location)
+      go false e true y v w = (sym (eqb-true k 2 y), refl, here .location)
+      go false e false y v w = (refl, refl, lit< tt)
 
   -- ---- the drain
 
@@ -67,16 +70,14 @@ module _ (g : Program) (m : Machine) (ready : Ready g m) (i : Record) (here : Fe
 
   ready-drained : (x v : ℕ) → d < n → Ready g (drainedIn m (event 3 p x v))
   unfolding todoIn
-  ready-drained x v l = record { fits = ready .fits; long = drained-long m (ready .long) (event 3 p x v); each = λ q o. go q o (eqb q p) refl }
+  ready-drained x v l = record { fits = ready .fits; long = drained-long m (ready .long) (event 3 p x v); inLog = ready .inLog; each = λ q o. go q o (eqb q p) refl }
     where
       go : (q : ℕ) → q < processors → (b : Bool) → eqb q p ≡ b → ReadyAt g (drainedIn m (event 3 p x v)) q
       go q o true e =
           let y : ReadyAt g (drainedIn m (event 3 p x v)) p = record {
             order = rw (getD-set-same (m .drained) p (d + 1) 0 (rw (ready .long .drained) h)) (omega arith);
             room = at .room;
-            at = at .at;
-            phase = at .phase;
-            inside = at .inside;
+            stands = at .stands;
           } in
           rw (eqb-true q p e) y
       go q o false e =
@@ -84,9 +85,7 @@ module _ (g : Program) (m : Machine) (ready : Ready g m) (i : Record) (here : Fe
           record {
             order = rw (getD-set-other (m .drained) p q (d + 1) 0 (eqb-false q p e)) (y .order);
             room = y .room;
-            at = y .at;
-            phase = y .phase;
-            inside = y .inside;
+            stands = y .stands;
           }
 
   -- ---- either
@@ -98,71 +97,80 @@ module _ (g : Program) (m : Machine) (ready : Ready g m) (i : Record) (here : Fe
   own = record { processor = h; register = here .register }
 
   onward : Onward (m .at) (m .phase) i
-  onward = let x = at .at in let y = ready .fits .few p in record { processor = h; kind = here .kind; at = omega arith; low = at .phase }
+  onward = let x = at .stands .at in let y = ready .fits .few p in record { processor = h; kind = here .kind; at = omega arith; low = at .stands .phase }
 
-  module _ (e : Event) (r : WellFormed e) where
-    inside : (k : ℕ) → 0 < k → k ≡ stepKind (i .kind) f → a < countIn g p
-    unfolding stepKind stepsOfKind
-    inside k z q = go (ltb a (countIn g p)) refl
-      where
-        go : (b : Bool) → ltb a (countIn g p) ≡ b → a < countIn g p
-        go true w = ltb-true a (countIn g p) w
-        go false w =
-            let y : i .kind ≡ 0 = ap (λ (r : Record). r .kind) (is-none g m ready i here h (ltb-false a (countIn g p) w)) in
-            let x : k ≡ 0 = q ∙ ap (λ (n : ℕ). stepKind n f) y in
-            absurd (omega arith)
+  -- a program step is offered only inside the program
+  inside : 0 < stepKind (i .kind) f → a < countIn g p
+  unfolding stepKind stepsOfKind
+  inside z = go (ltb a (countIn g p)) refl
+    where
+      go : (b : Bool) → ltb a (countIn g p) ≡ b → a < countIn g p
+      go true w = ltb-true a (countIn g p) w
+      go false w =
+          let none : i .kind ≡ 0 = ap (λ (r : Record). r .kind) (is-none g m ready i here h (ltb-false a (countIn g p) w)) in
+          let x : stepKind (i .kind) f ≡ 0 = ap (λ (n : ℕ). stepKind n f) none in
+          absurd (omega arith)
 
-    taken-next : ¬ (e .kind ≡ 3) → e ≡ nextOf m i (stepKind (i .kind) f) → Taken (nextOf m i (stepKind (i .kind) f))
-    unfolding afterEvent writes
-    taken-next n3 q =
+  module _ (l : a < countIn g p) where
+    not-drain : ¬ (stepKind (i .kind) f ≡ 3)
+    not-drain =
+        by-kind (λ k. ¬ (k ≡ 3)) (λ z. omega arith) (λ z. omega arith) (λ z. omega arith) (λ z. omega arith) (λ z. omega arith) (λ z. omega arith) (i .kind) f (here .kind)
+        (rw (ap (λ (r : Record). r .kind) (is-instruction g m ready i here h l)) (at .stands .inside l))
+
+    room : stepKind (i .kind) f ≡ 2 → n < instructionsEach
+    unfolding writes
+    room z =
+        let t = todo-next g m ready i here h l in
+        let w : writes (todoIn g m p) ≡ suc (writes (rest g m ready i here h l)) = ap writes (t ∙ ap (λ (k : ℕ). stepFor i k ∷ rest g m ready i here h l) z) in
+        let x = at .room in
+        omega arith
+
+    next-taken : Taken (nextOf m i (stepKind (i .kind) f))
+    unfolding afterEvent
+    next-taken =
         let o = nextOf m i (stepKind (i .kind) f) in
         let fields = next-fields (stepKind (i .kind) f) in
-        let kind : e .kind ≡ o .kind = ap (λ (r : Record). r .kind) q in
-        let l = inside (e .kind) (r .kind) (kind ∙ fields .0) in
-        let not-drain : ¬ (o .kind ≡ 3) = λ z. n3 (kind ∙ z) in (
+        let other : ¬ (o .kind ≡ 3) = λ z. not-drain (sym (fields .0) ∙ z) in (
           record {
             own = own;
             onward = onward;
             same = fields .1;
-            location = rw q at (r .location);
-            write = λ z. record { processor = h; few = room l (sym (fields .0) ∙ z) };
-            drain = λ z. absurd (not-drain z);
+            location = fields .2;
+            write = λ z. record { processor = h; few = room (sym (fields .0) ∙ z) };
+            drain = λ z. absurd (other z);
           },
-          rw (ne-eqb (o .kind) 3 not-drain) (ready-advanced g m ready i here h l (carriedOut m i o) (carries g m ready i here h l)),
+          rw (ne-eqb (o .kind) 3 other) (ready-advanced g m ready i here h l (carriedOut m i o) (carries g m ready i here h l)),
         )
-      where
-        room : a < countIn g p → stepKind (i .kind) f ≡ 2 → getD (m .issued) p 0 < instructionsEach
-        room l z =
-            let t = todo-next g m ready i here h l in
-            let w : writes (todoIn g m p) ≡ suc (writes (rest g m ready i here h l)) = ap writes (t ∙ ap (λ (k : ℕ). stepFor i k ∷ rest g m ready i here h l) z) in
-            let x = at .room in
-            omega arith
 
-    taken-drain : e ≡ oldestOf m i → Taken (oldestOf m i)
-    unfolding oldestIn afterEvent
-    taken-drain = go (eqb d n) refl _ _
-      where
-        go : (c : Bool) → eqb d n ≡ c → (x v : ℕ) → e ≡ cond c (event 0 p 0 0) (event 3 p x v) → Taken (cond c (event 0 p 0 0) (event 3 p x v))
-        go true w x v q = let z : e .kind ≡ 0 = ap (λ (r : Record). r .kind) q in let k = r .kind in absurd (omega arith)
-        go false w x v q =
-            let o = at .order in
-            let y = at .room in
-            let l : d < n = omega (arith, eqb-false d n w) in (
-              record {
-                own = own;
-                onward = onward;
-                same = refl;
-                location = rw q at (r .location);
-                write = λ z. absurd (omega arith);
-                drain = λ z. omega arith;
-              },
-              ready-drained x v l,
-            )
+  drain-taken : 0 < oldestOf m i .kind → Taken (oldestOf m i)
+  unfolding oldestIn afterEvent
+  drain-taken = go (eqb d n) refl _ _ (ready .inLog _)
+    where
+      go : (c : Bool) → eqb d n ≡ c → (x v : ℕ) → x < locations → 0 < cond c (event 0 p 0 0) (event 3 p x v) .kind → Taken (cond c (event 0 p 0 0) (event 3 p x v))
+      go true w x v b z = absurd (omega arith)
+      go false w x v b z =
+          let o = at .order in
+          let y = at .room in
+          let l : d < n = omega (arith, eqb-false d n w) in (
+            record {
+              own = own;
+              onward = onward;
+              same = refl;
+              location = b;
+              write = λ z. absurd (omega arith);
+              drain = λ z. omega arith;
+            },
+            ready-drained x v l,
+          )
 
-    pub taken : allowed g m ready i here h e (offeredOf m i (e .kind)) ≡ true → Taken (offeredOf m i (e .kind))
-    unfolding offeredIn
-    taken y = go (eqb (e .kind) 3) refl (same-true e (offeredOf m i (e .kind)) (and-left _ _ y))
-      where
-        go : (b : Bool) → eqb (e .kind) 3 ≡ b → e ≡ cond b (oldestOf m i) (nextOf m i (stepKind (i .kind) f)) → Taken (cond b (oldestOf m i) (nextOf m i (stepKind (i .kind) f)))
-        go true w q = taken-drain q
-        go false w q = taken-next (eqb-false (e .kind) 3 w) q
+  -- whatever is offered, if it is a step, may be taken
+  pub offered-taken : (k : ℕ) → 0 < offeredOf m i k .kind → Taken (offeredOf m i k)
+  unfolding offeredIn
+  offered-taken k = go (eqb k 3)
+    where
+      go : (b : Bool) → 0 < cond b (oldestOf m i) (nextOf m i (stepKind (i .kind) f)) .kind → Taken (cond b (oldestOf m i) (nextOf m i (stepKind (i .kind) f)))
+      go true z = drain-taken z
+      go false z = next-taken (inside (rw (next-fields (stepKind (i .kind) f) .0) at z))
+
+  pub taken : (e : Event) → 0 < e .kind → allowed g m ready i here h e (offeredOf m i (e .kind)) ≡ true → Taken (offeredOf m i (e .kind))
+  taken e z y = offered-taken (e .kind) (subst (λ (o : Event). 0 < o .kind) (same-true e (offeredOf m i (e .kind)) (and-left _ _ y)) z)

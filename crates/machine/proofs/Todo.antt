@@ -8,17 +8,20 @@ use native.Mathlib.Omega.{arith}
 use lib.ListN.{length, getD, drop}
 use lib.Seq.{drop-nil}
 use lib.Dec.{eqb, leb, lit<}
-use borrow.Author.Tests.{eqb-true}
+use borrow.Author.Tests.{eqb-true, eqb-false}
 use Rattle.model.specs.declared.record.Record.{Record}
 use Rattle.model.specs.declared.table.Program.{Program}
 use Rattle.model.specs.Program.{ProgramStep, read, write, fence, lock, unlock, local, Target, into, aside, Source, constant, register, swapped, added}
+use Rattle.model.specs.Sizes.{processors}
 use Rattle.model.specs.Kinds.{tableRows, entryOf}
 use Rattle.model.specs.Machine.{Processor, issued}
-use Rattle.model.specs.Code.{stepsIn, instructionAt, stepsFrom, countIn}
+use Rattle.model.specs.Code.{stepsIn, instructionAt, stepsFrom, countIn, Fits}
 use Rattle.model.proofs.Rows.{AllBelow, below}
 use Rattle.model.proofs.Columns.{stepsAt, entry-weight, next-phase, next-instruction}
 use Rattle.rules.specs.Guards.{issuedBy}
 use Rattle.rules.specs.Steps.{stepsOfKind, stepKind, stepCount}
+use Rattle.machine.specs.View.{leftFrom}
+use Rattle.machine.specs.Ready.{Stands}
 
 -- ---- the program steps of a record, by its kind
 
@@ -70,11 +73,11 @@ module _ (r : Record) (P : Processor) where
   unfolding issued
   issues h = below 12 Issues (refl, (refl, (refl, (refl, (refl, (refl, (refl, (refl, (refl, (refl, (refl, (refl, tt)))))))))))) (r .kind) h
 
-pub few-steps : (k : ℕ) → stepCount k ≤ 4
+few-steps : (k : ℕ) → stepCount k ≤ 4
 unfolding stepCount stepsOfKind
 few-steps k = entry-weight (entryOf (record { kind = k; processor = 0; register = 0; location = 0; value = 0 })) .0
 
-pub some-steps : (k : ℕ) → k < tableRows → 3 ≤ k → 0 < stepCount k
+some-steps : (k : ℕ) → k < tableRows → 3 ≤ k → 0 < stepCount k
 unfolding stepCount stepsIn
 some-steps k h =
     below 12 (λ k. 3 ≤ k → 0 < stepCount k) (
@@ -94,14 +97,11 @@ by-kind K r w e l u n k f h o =
 -- ---- at instruction a, of which f steps are taken
 
 module _ (g : Program) (p a f : ℕ) where
-  abbrev pub leftAt : List ProgramStep
-  leftAt = drop f (stepsFrom g p a (countIn g p - a))
-
   -- after one step more
   abbrev pub restAt : List ProgramStep
   restAt = drop (suc f) (stepsFrom g p a (countIn g p - a))
 
-  pub none-left : countIn g p ≤ a → leftAt ≡ []
+  pub none-left : countIn g p ≤ a → leftFrom g p a f ≡ []
   unfolding stepsFrom
   none-left h = let e : countIn g p - a ≡ 0 = omega arith in ap (λ (n : ℕ). drop f (stepsFrom g p a n)) e ∙ drop-nil f
 
@@ -109,7 +109,7 @@ module _ (g : Program) (p a f : ℕ) where
     more : countIn g p - a ≡ suc (countIn g p - suc a)
     more = omega arith
 
-    pub next-left : leftAt ≡ stepFor (instructionAt g p a) (stepKind (instructionAt g p a .kind) f) ∷ restAt
+    pub next-left : leftFrom g p a f ≡ stepFor (instructionAt g p a) (stepKind (instructionAt g p a .kind) f) ∷ restAt
     next-left =
         ap (λ (n : ℕ). drop f (stepsFrom g p a n)) more ∙ next-phase g p a (countIn g p - suc a) f (rw (count-is (instructionAt g p a) high) inside)
         ∙ (λ j. next-is (instructionAt g p a) f high inside j ∷ drop (suc f) (stepsFrom g p a (sym more j)))
@@ -123,3 +123,23 @@ module _ (g : Program) (p a f : ℕ) where
         ∙ next-instruction g p a (countIn g p - suc a) ∙ (λ j. stepsFrom g p (sym (add-one a) j) (countIn g p - sym (add-one a) j))
         )
     rest-left false e = λ j. drop (add-one f j) (stepsFrom g p a (countIn g p - a))
+
+-- ---- where a processor may stand
+
+-- at the first step of an instruction
+pub stands-first : (g : Program) (p a : ℕ) → Fits g → p < processors → a ≤ countIn g p → Stands g p a 0
+stands-first g p a fits h l = record {
+  at = l;
+  phase = lit< tt;
+  inside = λ o. let t = fits .each p a h o in some-steps (instructionAt g p a .kind) (t .high) (t .low);
+}
+
+-- past one step
+pub stands-next : (g : Program) (p a f : ℕ) → Fits g → p < processors → Stands g p a f → a < countIn g p
+    → (b : Bool) → eqb (f + 1) (stepCount (instructionAt g p a .kind)) ≡ b → Stands g p (cond b (a + 1) a) (cond b 0 (f + 1))
+stands-next g p a f fits h s l true e = stands-first g p (a + 1) fits h (omega arith)
+stands-next g p a f fits h s l false e =
+    let x = eqb-false (f + 1) (stepCount (instructionAt g p a .kind)) e in
+    let o = s .inside l in
+    let n : f + 1 < stepCount (instructionAt g p a .kind) = omega arith in
+    record { at = s .at; phase = omega (arith, few-steps (instructionAt g p a .kind)); inside = λ q. n }

@@ -57,7 +57,11 @@ nextOf m i k =
     nextIn (m .locations) (m .values) (issuedNow m i) (drainedNow m i) (getD (m .kept) (i .processor) 0) (getD (m .registers) (registerOf i) 0)
     (getD (m .memory) (i .location) 0) i k
 
+abbrev pub offeredFrom : (registers memory kept phase locations values issued drained : List ℕ) → Record → ℕ → Event
+offeredFrom registers memory kept phase locations values issued drained i k =
+    let p = i .processor in
+    offeredIn locations values (getD issued p 0) (getD drained p 0) (getD kept p 0) (getD registers (registerOf i) 0) (getD memory (i .location) 0) i
+    (getD phase p 0) k
+
 abbrev pub offeredOf : Machine → Record → ℕ → Event
-offeredOf m i k =
-    offeredIn (m .locations) (m .values) (issuedNow m i) (drainedNow m i) (getD (m .kept) (i .processor) 0) (getD (m .registers) (registerOf i) 0)
-    (getD (m .memory) (i .location) 0) i (getD (m .phase) (i .processor) 0) k
+offeredOf m i k = offeredFrom (m .registers) (m .memory) (m .kept) (m .phase) (m .locations) (m .values) (m .issued) (m .drained) i k

@@ -5,6 +5,7 @@ use Prim.Native.Nat.{ℕ, _+_, _*_, _≤_, _<_}
 use mathlib.Core.Bool.{Bool, true, false}
 use lib.ListN.{length, getD}
 use Rattle.model.specs.declared.record.Record.{Record}
+use Rattle.model.specs.Sizes as sizes
 use Rattle.model.specs.Sizes.{processors, registersEach, locations, instructionsEach}
 use Rattle.model.specs.Kinds.{tableRows}
 use Rattle.model.specs.declared.table.Program.{Program}
@@ -15,6 +16,7 @@ use Rattle.model.specs.Code.{instructionAt, countIn, Fits}
 use Rattle.model.specs.Rules.{Event}
 use Rattle.machine.specs.declared.state.Machine.{Machine}
 use Rattle.rules.specs.Steps.{phases, stepCount}
+use Rattle.rules.specs.Offers.{Offerable}
 use Rattle.machine.specs.View.{todoIn, machineOf}
 
 -- an instruction's own register
@@ -49,6 +51,12 @@ pub record Storable (m : Machine) (i : Record) (e : Event) : Type 0 where
   pub write : e .kind ≡ 2 → Issuable (m .issued) (i .processor)
   pub drain : e .kind ≡ 3 → getD (m .drained) (i .processor) 0 < instructionsEach
 
+-- what the step that is offered to i's processor asks
+pub record MayOffer (phase locations values issued drained : List ℕ) (i : Record) : Type 0 where
+  pub own : Own i
+  pub location : i .location < sizes.locations
+  pub offers : Offerable locations values (getD issued (i .processor) 0) (getD drained (i .processor) 0) i (getD phase (i .processor) 0)
+
 -- ---- at every step, where g has the programs
 
 pub record Long (m : Machine) : Type 0 where
@@ -62,17 +70,23 @@ pub record Long (m : Machine) : Type 0 where
   pub issued : length (m .issued) ≡ processors
   pub drained : length (m .drained) ≡ processors
 
+-- processor p may stand at instruction a, of which f program steps are taken
+pub record Stands (g : Program) (p a f : ℕ) : Type 0 where
+  pub at : a ≤ countIn g p
+  pub phase : f < phases
+  pub inside : a < countIn g p → f < stepCount (instructionAt g p a .kind)
+
 -- of processor p: the writes issued and those to come have places in the log, and it stands inside its instruction
 pub record ReadyAt (g : Program) (m : Machine) (p : ℕ) : Type 0 where
   pub order : getD (m .drained) p 0 ≤ getD (m .issued) p 0
   pub room : getD (m .issued) p 0 + writes (todoIn g m p) ≤ instructionsEach
-  pub at : getD (m .at) p 0 ≤ countIn g p
-  pub phase : getD (m .phase) p 0 < phases
-  pub inside : getD (m .at) p 0 < countIn g p → getD (m .phase) p 0 < stepCount (instructionAt g p (getD (m .at) p 0) .kind)
+  pub stands : Stands g p (getD (m .at) p 0) (getD (m .phase) p 0)
 
+-- of all, and every location in the log is one of the eight
 pub record Ready (g : Program) (m : Machine) : Type 0 where
   pub fits : Fits g
   pub long : Long m
+  pub inLog : (n : ℕ) → getD (m .locations) n 0 < locations
   pub each : (p : ℕ) → p < processors → ReadyAt g m p
 
 -- ---- a step
@@ -80,7 +94,6 @@ pub record Ready (g : Program) (m : Machine) : Type 0 where
 pub record WellFormed (e : Event) : Type 0 where
   pub kind : 0 < e .kind
   pub processor : e .processor < processors
-  pub location : e .location < locations
 
 abbrev pub steppedAs : Bool → model.Machine → Stepped
 steppedAs true t = took t

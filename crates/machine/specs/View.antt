@@ -23,10 +23,13 @@ waitingIn m p =
     let end = placeAt p (getD (m .issued) p 0) in
     writesIn (slice oldest end (m .locations)) (slice oldest end (m .values))
 
--- what is left of its program
+-- what is left of its program at instruction a, of which f program steps are taken
+abbrev pub leftFrom : Program → ℕ → ℕ → ℕ → List ProgramStep
+leftFrom g p a f = drop f (stepsFrom g p a (countIn g p - a))
+
 unfoldable pub todoIn : Program → Machine → ℕ → List ProgramStep
 unfolding stepsFrom
-todoIn g m p = let a = getD (m .at) p 0 in drop (getD (m .phase) p 0) (stepsFrom g p a (countIn g p - a))
+todoIn g m p = leftFrom g p (getD (m .at) p 0) (getD (m .phase) p 0)
 
 unfoldable pub processorOf : Program → Machine → ℕ → Processor
 unfolding todoIn waitingIn

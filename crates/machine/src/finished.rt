@@ -8,7 +8,7 @@ use crate::state::Machine;
 use model::table::Program;
 
 // A processor at instruction `at` of `count`, of whose `issued` writes `drained` are drained.
-fn is_done(at: usize, count: usize, drained: usize, issued: usize) -> bool
+pub fn is_done(at: usize, count: usize, drained: usize, issued: usize) -> bool
     ensures { λ r. ⌜ r ≡ doneIn at count drained issued ⌝ }
 {
     (at == count) & (drained == issued)

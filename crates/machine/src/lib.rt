@@ -2,5 +2,6 @@
 pub mod apply;
 pub mod effects;
 pub mod finished;
+pub mod offered;
 pub mod state;
 pub mod step;

@@ -3,12 +3,12 @@ ghost use Rattle.rules.specs.Programs.{columns};
 ghost use Rattle.machine.specs.Arrays.{parts};
 ghost use Rattle.machine.specs.Ready.{Ready, WellFormed, Steps};
 use crate::apply;
+use crate::offered;
 use crate::state::Machine;
 use model::record::Record;
 use model::table::Cells;
 use model::table::Program;
 use rules::guards;
-use rules::offer;
 use rules::program;
 
 // The step e on the arrays of a state, where kinds to counts are the columns of the program. Answers whether it is taken; if not, nothing changes.
@@ -35,23 +35,20 @@ pub fn step_parts<'a>(
 {
     let p = e.processor as usize;
     let i = program::fetch(kinds, operands, targets, constants, counts, p, at[p]);
-    let k = Cells::REGISTERS * p + (i.register as usize);
-    let x = i.location as usize;
-    let n = issued[p];
-    let d = drained[p];
-    let o = offer::offered(
+    let o = offered::offered_to(
+        registers,
+        memory,
+        kept,
+        phase,
         locations,
         values,
-        n,
-        d,
-        kept[p],
-        registers[k],
-        memory[x],
+        issued,
+        drained,
         i,
-        phase[p],
         e.kind,
     );
-    if guards::same(e, o) & guards::permitted(o.kind, *holder, p, d == n) {
+    let empty = drained[p] == issued[p];
+    if guards::same(e, o) & guards::permitted(o.kind, *holder, p, empty) {
         apply::apply(
             registers,
             memory,

@@ -95,7 +95,7 @@ back-records a b n i (suc m) h =
     let e : suc (n + i) ≡ n + suc i = omega arith in
     λ k. back-record a b n i h k ∷ (ap (λ (j : ℕ). recordsFrom (a ++ b) j m) e ∙ back-records a b n (suc i) m h) k
 
-records-split : (bytes : List ℕ) (i m k : ℕ) → recordsFrom bytes i (m + k) ≡ recordsFrom bytes i m ++ recordsFrom bytes (i + m) k
+pub records-split : (bytes : List ℕ) (i m k : ℕ) → recordsFrom bytes i (m + k) ≡ recordsFrom bytes i m ++ recordsFrom bytes (i + m) k
 unfolding recordsFrom
 records-split bytes i zero k = let e : i ≡ i + 0 = omega arith in let f : 0 + k ≡ k = omega arith in λ j. recordsFrom bytes (e j) (f j)
 records-split bytes i (suc m) k =

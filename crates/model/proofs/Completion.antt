@@ -8,9 +8,10 @@ use borrow.Author.Tests.{ne-eqb}
 use Rattle.model.specs.Machine.{Machine, WaitingWrite, processor}
 use Rattle.model.specs.Rules.{Event, Allowed, Read, Write, Drain, Fence, Lock, Unlock, Local}
 use Rattle.model.specs.Step.{drainMove, moveFor}
-use Rattle.model.specs.Left.{FinishingStep, drains, goesOn, FinishingRun}
+use Rattle.model.specs.Left.{left, FinishingStep, drains, goesOn, FinishingRun}
 use Rattle.model.specs.Finish.{drainOrNext, finishingMove, finishing, completion}
 use Rattle.model.proofs.Steps.{offered}
+use Rattle.model.proofs.Left.{one-less}
 use Rattle.model.proofs.Runs.{finished-length}
 use Rattle.model.proofs.Movers.{one-mover}
 use Rattle.model.proofs.Finish.{finishing-allowed, finishing-is-run, finishing-next}
@@ -47,6 +48,15 @@ one-step : (s : Machine) (e : Event) (t : Machine) (es : List Event) (k : ℕ) �
 one-step s e t es k f h =
     let o = offered s e t (finishing-allowed s e t f) in
     finishing-next k s (o .move) (finishing-asks s e t f ∙ o .asked) ∙ (λ i. o .event i ∷ (ap (finishing k) (o .after) ∙ h) i)
+
+-- a completion begins with the finishing step, and goes on with the completion after it
+pub completion-next : (s : Machine) (e : Event) (t : Machine) → FinishingStep s e t → completion s ≡ e ∷ completion t
+unfolding completion
+completion-next s e t f = ap (λ (k : ℕ). finishing k s) (one-less s e t (finishing-allowed s e t f)) ∙ one-step s e t (finishing (left t) t) (left t) f refl
+
+pub completion-none : (s : Machine) → left s ≡ 0 → completion s ≡ []
+unfolding completion finishing
+completion-none s e = ap (λ (k : ℕ). finishing k s) e
 
 only : (es : List Event) (s u : Machine) → FinishingRun s es u → finishing (length es) s ≡ es
 unfolding finishing

@@ -69,15 +69,15 @@ module _ (s : Machine) (p : ℕ) (busy : ¬ Done (processor s p)) (n : notBlocke
 -- ---- so it is the finishing step
 
 -- the move, and its finishing step
-record Finisher (s : Machine) : Type 0 where
-  move : Move
-  given : finishingMove s ≡ some move
-  finishes : FinishingStep s (move .event) (move .after)
+pub record Finisher (s : Machine) : Type 0 where
+  pub move : Move
+  pub given : finishingMove s ≡ some move
+  pub finishes : FinishingStep s (move .event) (move .after)
 
 chosen-allowed : (s : Machine) (p : ℕ) (o : Option Move) (c : Chosen s p o) → Allowed s (c .move .event) (c .move .after)
 chosen-allowed s p o c = step-allowed s _ _ (take-move s (c .move) (c .asked) (c .allowed))
 
-finisher : (s : Machine) → Orderly s → 0 < left s → Finisher s
+pub finisher : (s : Machine) → Orderly s → 0 < left s → Finisher s
 unfolding finishingMove drainOrNext
 finisher s o b = go (processor s p .waiting) refl
   where

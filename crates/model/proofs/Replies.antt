@@ -24,11 +24,11 @@ use Rattle.model.proofs.Numbers.{tried-follows, tried-stops}
 
 -- ---- the room is large enough, or not
 
-written-fits : (place needed : ℕ) (contents room : List ℕ) → needed ≤ length room → written place needed contents room ≡ done place (contents ++ drop needed room)
+pub written-fits : (place needed : ℕ) (contents room : List ℕ) → needed ≤ length room → written place needed contents room ≡ done place (contents ++ drop needed room)
 unfolding written
 written-fits place needed contents room h = rw (le-leb needed (length room) h)
 
-written-not : (place needed : ℕ) (contents room : List ℕ) → length room < needed → written place needed contents room ≡ refuse 13 needed room
+pub written-not : (place needed : ℕ) (contents room : List ℕ) → length room < needed → written place needed contents room ≡ refuse 13 needed room
 unfolding written
 written-not place needed contents room h = rw (lt-leb needed (length room) h)
 

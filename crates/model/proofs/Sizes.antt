@@ -6,7 +6,7 @@ use native.Mathlib.Nat.{zero-mul, one-mul, add-mul}
 use native.Mathlib.Omega.{arith}
 use lib.ListN.{length, getD, length-append, length-set}
 use lib.Dec.{eqb}
-use Rattle.model.specs.Sizes.{processors, instructionsEach}
+use Rattle.model.specs.Sizes.{processors, instructionsEach, longestTrace}
 use Rattle.model.specs.Program.{Instruction, storeConstant, storeRegister, load, setRegister, mfence, exchange, lockedExchange, exchangeAdd, lockedExchangeAdd, ProgramStep, read, write, fence, lock, unlock, local, stepsOf}
 use Rattle.model.specs.Machine.{Machine, Processor, processor, idle, withProcessor, withCell, assigned}
 use Rattle.model.specs.Rules.{Event, Allowed, Run}
@@ -111,7 +111,7 @@ pub start-four : (entries : List Entry) → length (start entries .processors) �
 unfolding start empty
 start-four entries = enter-four entries empty
 
-pub longest : (table : List ℕ) (entries : List Entry) → Readable table entries → left (start entries) ≤ 320
+pub longest : (table : List ℕ) (entries : List Entry) → Readable table entries → left (start entries) ≤ longestTrace
 unfolding left processor
 longest table entries r = omega (arith, left-sum (start entries .processors) (left-each table entries r), start-four entries)
 

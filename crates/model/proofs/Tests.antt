@@ -17,11 +17,11 @@ passed-inj {A} {a} {b} h = cc
 same-refusal : {A B : Type 0} {n m i j : ℕ} → _≡_ {A = Tested A} (refused n i) (refused m j) → _≡_ {A = Tested B} (refused n i) (refused m j)
 same-refusal {A} {B} {n} {m} {i} {j} h = let e : n ≡ m = cc in let f : i ≡ j = cc in λ k. refused (e k) (f k)
 
-pub some-inj : {n m : ℕ} → some n ≡ some m → n ≡ m
-some-inj {n} {m} h = cc
+pub some-inj : {A : Type 0} {a b : A} → some a ≡ some b → a ≡ b
+some-inj {A} {a} {b} h = cc
 
-pub none-some {ℓ} : {B : Type ℓ} {n : ℕ} → none ≡ some n → B
-none-some {B} {n} h = let z : _≡_ {A = ℕ} 0 1 = cc in absurd (omega arith)
+pub none-some {ℓ} : {B : Type ℓ} {A : Type 0} {a : A} → none ≡ some a → B
+none-some {B} {A} {a} h = let z : _≡_ {A = ℕ} 0 1 = cc in absurd (omega arith)
 
 -- ---- one thing after another
 

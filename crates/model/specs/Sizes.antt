@@ -20,6 +20,14 @@ resultWords = processors * registersEach + locations
 abbrev pub recordSize : ℕ
 recordSize = 8
 
+-- no instruction takes more steps: four of the program, and a drain
+abbrev pub stepsEach : ℕ
+stepsEach = 5
+
+-- the steps of the longest finished trace
+abbrev pub longestTrace : ℕ
+longestTrace = processors * instructionsEach * stepsEach
+
 -- a value is below this, and a sum is taken modulo this
 abbrev pub values : ℕ
 values = 4294967296

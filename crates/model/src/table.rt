@@ -1,7 +1,7 @@
 // What a table gives: each processor's program, and the cells at the start.
 ghost use mathlib.Core.Path.{_≡_};
 ghost use mathlib.Core.List.{[], _∷_};
-ghost use Rattle.model.specs.Sizes.{processors, registersEach, locations, instructionsEach, resultWords, recordSize};
+ghost use Rattle.model.specs.Sizes.{processors, registersEach, locations, instructionsEach, resultWords, recordSize, longestTrace};
 use crate::record::Record;
 
 // The instructions as their table records give them, in columns: those of processor p at INSTRUCTIONS * p and on, counts[p] of them.
@@ -20,6 +20,9 @@ impl Program {
     pub const INSTRUCTIONS: usize = 16;
 
     pub const PLACES: usize = Self::PROCESSORS * Self::INSTRUCTIONS;
+
+    // Steps in the longest finished trace: no instruction takes more than five.
+    pub const LONGEST: usize = Self::PLACES * 5;
 }
 
 // The registers, processor by processor, and memory: what initial records set and a result reports.
@@ -41,8 +44,8 @@ impl Cells {
 }
 
 // The limits above are those of the definitions.
-pub fn limits() -> [usize; 6]
-    ensures { λ r. ⌜ r ≡ processors ∷ registersEach ∷ locations ∷ instructionsEach ∷ resultWords ∷ recordSize ∷ [] ⌝ }
+pub fn limits() -> [usize; 7]
+    ensures { λ r. ⌜ r ≡ processors ∷ registersEach ∷ locations ∷ instructionsEach ∷ resultWords ∷ recordSize ∷ longestTrace ∷ [] ⌝ }
 {
     [
         Program::PROCESSORS,
@@ -51,5 +54,6 @@ pub fn limits() -> [usize; 6]
         Program::INSTRUCTIONS,
         Cells::WORDS,
         Record::BYTES,
+        Program::LONGEST,
     ]
 }

@@ -1,4 +1,5 @@
 pub mod Adding
 pub mod Decimal
 pub mod Listings
+pub mod Notation
 pub mod Replied

@@ -1,2 +1,3 @@
 pub mod Reply
+pub mod Steps
 pub mod Text

@@ -1,5 +1,6 @@
-// Text as bytes in a lent buffer: numbers, and the listing of a reply.
+// Text as bytes in a lent buffer: numbers, steps, and the text of a reply.
+pub mod added;
 pub mod lines;
-pub mod number;
 pub mod put;
 pub mod reply;
+pub mod steps;

@@ -6,13 +6,13 @@ ghost use Rattle.model.specs.Reply.{numberOf};
 ghost use Rattle.model.specs.Sizes.{processors, resultWords};
 ghost use Rattle.text.specs.Text.{Adds};
 ghost use Rattle.text.specs.Reply.{finishedLine, processorLine, processorLines, memoryLine, refusedLine};
-use crate::number::number;
 use crate::put::LINE_END;
 use crate::put::put_byte;
 use crate::put::put_number;
 use crate::put::put_numbers;
 use crate::put::put_word;
 use model::answer::Refusal;
+use model::number::number;
 use model::table::Cells;
 use model::table::Program;
 

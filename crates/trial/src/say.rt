@@ -1,14 +1,11 @@
 // One line for each call: its name, the answer, and what matters of the room.
 use crate::room;
+use files::say::say;
 use libc::STDOUT_FILENO;
 use model::answer::Answer;
 use model::answer::Refusal;
+use model::number::number;
 use model::table::Cells;
-use text::number::number;
-
-fn say(text: &[u8]) {
-    io::write_all(STDOUT_FILENO, text);
-}
 
 fn say_number(n: u64) {
     io::print_decimal(STDOUT_FILENO, n);

@@ -1,0 +1,5 @@
+pub mod Weights
+pub mod Lefts
+pub mod Movers
+pub mod Chosen
+pub mod Writing

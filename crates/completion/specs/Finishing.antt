@@ -1,0 +1,47 @@
+-- What finishing asks and promises, where g has the programs.
+use mathlib.Core.Path.{_≡_}
+use mathlib.Core.Bool.{cond}
+use mathlib.Core.List.{List, _++_}
+use Prim.Native.Nat.{ℕ, _*_, _≤_, _<_}
+use lib.ListN.{length, drop}
+use lib.Dec.{eqb}
+use Rattle.model.specs.declared.table.Program.{Program}
+use Rattle.model.specs.Sizes.{recordSize}
+use Rattle.model.specs.Record.{fileOf}
+use Rattle.model.specs.Rules.{Event}
+use Rattle.model.specs.Left.{left, FinishingStep}
+use Rattle.model.specs.Finish.{completion}
+use Rattle.model.specs.Orderly.{Orderly}
+use Rattle.machine.specs.declared.state.Machine.{Machine}
+use Rattle.machine.specs.View.{machineOf}
+use Rattle.machine.specs.Ready.{Ready}
+
+-- what holds of every state m that a run reaches
+pub record Underway (g : Program) (m : Machine) : Type 0 where
+  pub ready : Ready g m
+  pub orderly : Orderly (machineOf g m)
+
+-- and a step is left
+pub record HasMore (g : Program) (m : Machine) : Type 0 where
+  pub underway : Underway g m
+  pub more : 0 < left (machineOf g m)
+
+-- the kind that asks for a drain where a write waits, or else for the next program step
+abbrev pub drainOrNextIn : ℕ → ℕ → ℕ
+drainOrNextIn drained issued = cond (eqb drained issued) 0 3
+
+-- from m to n by the finishing step, whose event is e
+pub record FinishesBy (g : Program) (m : Machine) (e : Event) (n : Machine) : Type 0 where
+  pub step : FinishingStep (machineOf g m) e (machineOf g n)
+  pub ready : Ready g n
+
+-- k steps are left, and there is room for them
+pub record Completable (g : Program) (m : Machine) (k : ℕ) (room : List ℕ) : Type 0 where
+  pub underway : Underway g m
+  pub steps : left (machineOf g m) ≡ k
+  pub fits : recordSize * k ≤ length room
+
+-- the room with the completion at its start
+unfoldable pub completedIn : Program → Machine → ℕ → List ℕ → List ℕ
+unfolding fileOf completion machineOf
+completedIn g m k room = fileOf (completion (machineOf g m)) ++ drop (recordSize * k) room

@@ -1,0 +1,3 @@
+pub mod Weight
+pub mod Mover
+pub mod Finishing

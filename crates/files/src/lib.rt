@@ -1,0 +1,4 @@
+// Whole files of the current folder, and what a program says on standard output.
+pub mod read;
+pub mod say;
+pub mod write;

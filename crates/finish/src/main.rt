@@ -1,0 +1,4 @@
+// The finish program, on table.rec and trace.rec of the current folder.
+fn main() {
+    finishing::show::show();
+}

@@ -1,0 +1,118 @@
+//! Calls from Rust, with answers of document 01's sheet.
+use ambercell::{check, finish, Refusal, Refused, CHECK_WORDS, FINISH_BYTES};
+
+type Record = [u8; 8];
+
+/// P0 stores x1, loads EAX from y; P1 stores y1, loads EBX from x.
+const SB: [Record; 4] = [
+    [3, 0, 0, 0, 1, 0, 0, 0],
+    [5, 0, 0, 1, 0, 0, 0, 0],
+    [3, 1, 0, 1, 1, 0, 0, 0],
+    [5, 1, 1, 0, 0, 0, 0, 0],
+];
+
+const W0_X1: Record = [2, 0, 0, 0, 1, 0, 0, 0];
+const W1_Y1: Record = [2, 1, 0, 1, 1, 0, 0, 0];
+const R0_Y0: Record = [1, 0, 0, 1, 0, 0, 0, 0];
+const R0_Y1: Record = [1, 0, 0, 1, 1, 0, 0, 0];
+const R1_X0: Record = [1, 1, 0, 0, 0, 0, 0, 0];
+const R1_X1: Record = [1, 1, 0, 0, 1, 0, 0, 0];
+const D0_X1: Record = [3, 0, 0, 0, 1, 0, 0, 0];
+const D1_Y1: Record = [3, 1, 0, 1, 1, 0, 0, 0];
+
+fn refused(why: Refusal, place: usize) -> Result<usize, Refused> {
+    Err(Refused { why, place })
+}
+
+#[test]
+fn line_1_is_finished() {
+    let trace = [W0_X1, W1_Y1, R0_Y0, R1_X0, D0_X1, D1_Y1].concat();
+    let mut room = [7; CHECK_WORDS + 1];
+    assert_eq!(check(&SB.concat(), &trace, &mut room), Ok(6));
+    assert_eq!(room[..16], [0; 16]);
+    assert_eq!(room[16..24], [1, 1, 0, 0, 0, 0, 0, 0]);
+    assert_eq!(room[24], 7);
+}
+
+#[test]
+fn line_2_is_refused_and_the_room_kept() {
+    let trace = [W0_X1, W1_Y1, R0_Y1, R1_X0, D0_X1, D1_Y1].concat();
+    let mut room = [7; CHECK_WORDS];
+    assert_eq!(
+        check(&SB.concat(), &trace, &mut room),
+        refused(Refusal::NotAllowed, 2)
+    );
+    assert_eq!(room, [7; CHECK_WORDS]);
+}
+
+#[test]
+fn line_3_is_unfinished() {
+    let trace = [W0_X1, W1_Y1, R0_Y0, R1_X0, D0_X1].concat();
+    assert_eq!(
+        check(&SB.concat(), &trace, &mut [0; CHECK_WORDS]),
+        refused(Refusal::Unfinished, 5)
+    );
+}
+
+#[test]
+fn line_4_finishes_from_nothing() {
+    let mut room = [7; 49];
+    assert_eq!(finish(&SB.concat(), &[], &mut room), Ok(6));
+    assert_eq!(
+        room[..48],
+        [W0_X1, D0_X1, R0_Y0, W1_Y1, D1_Y1, R1_X1].concat()
+    );
+    assert_eq!(room[48], 7);
+    assert_eq!(
+        check(&SB.concat(), &room[..48], &mut [0; CHECK_WORDS]),
+        Ok(6)
+    );
+}
+
+#[test]
+fn empty_slices() {
+    assert_eq!(finish(&[], &[], &mut []), Ok(0));
+    assert_eq!(check(&[], &[], &mut [0; CHECK_WORDS]), Ok(0));
+    assert_eq!(
+        check(&[], &[], &mut []),
+        refused(Refusal::RoomTooSmall, CHECK_WORDS)
+    );
+}
+
+/// Each number as the library gives it, in its order.
+#[test]
+fn every_refusal() {
+    let fence = [7, 0, 0, 0, 0, 0, 0, 0];
+    let memory = [1, 0, 0, 0, 1, 0, 0, 0];
+    let sb = SB.concat();
+    let calls: [(&[u8], &[u8]); 13] = [
+        (&[0], &[]),
+        (&[12, 0, 0, 0, 0, 0, 0, 0], &[]),
+        (&[7, 4, 0, 0, 0, 0, 0, 0], &[]),
+        (&[7, 0, 1, 0, 0, 0, 0, 0], &[]),
+        (&[fence, memory].concat(), &[]),
+        (&[memory, memory].concat(), &[]),
+        (&[fence; 17].concat(), &[]),
+        (&sb, &[0]),
+        (&sb, &[8, 0, 0, 0, 0, 0, 0, 0]),
+        (&sb, &[2, 4, 0, 0, 1, 0, 0, 0]),
+        (&sb, &[2, 2, 0, 0, 1, 0, 0, 0]),
+        (&sb, &[]),
+        (&[], &[]),
+    ];
+    for (number, (table, trace)) in (1..).zip(calls) {
+        let answer = check(table, trace, &mut []).unwrap_err();
+        assert_eq!(answer.why as u64, number);
+        assert!(answer
+            .to_string()
+            .starts_with(&format!("refused {number} at ")));
+    }
+}
+
+#[test]
+fn longest() {
+    let table: Vec<u8> = (0..64).flat_map(|i| [9, i % 4, 0, 0, 0, 0, 0, 0]).collect();
+    let mut steps = [0; FINISH_BYTES];
+    assert_eq!(finish(&table, &[], &mut steps), Ok(320));
+    assert_eq!(check(&table, &steps, &mut [0; CHECK_WORDS]), Ok(320));
+}
