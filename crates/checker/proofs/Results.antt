@@ -6,19 +6,19 @@ use Prim.Native.Nat.{ℕ, _+_, _/_, _≤_, _<_}
 use native.Mathlib.Omega.{arith}
 use lib.ListN.{length, drop}
 use lib.Seq.{paste, take-all, take-at, drop-append-add, drop-drop}
-use borrow.Author.Tests.{le-leb, lt-leb, not-true, not-false}
+use borrow.Author.Tests.{not-true, not-false}
 use Rattle.model.specs.declared.answer.Refusal.{Refusal}
 use Rattle.model.specs.declared.answer.Verdict.{Verdict}
 use Rattle.model.specs.declared.answer.Verdict.the-variants.{Passed, Refused}
 use Rattle.model.specs.declared.table.Program.{Program}
-use Rattle.model.specs.Tests.{passed, refused}
 use Rattle.model.specs.Record.{records}
 use Rattle.model.specs.Machine as model
 use Rattle.model.specs.Finish.{isFinished}
-use Rattle.model.specs.Reply.{Reply, done, refuse, numberOf}
-use Rattle.model.specs.Calls.{tried, replied, written, reported, checkedAt, checked, completedAt, completed}
+use Rattle.model.specs.Reply.{Reply, done, refuse, words, numberOf}
+use Rattle.model.specs.Calls.{tried, replied, reported, checkedAt, checked, completedAt, completed}
 use Rattle.model.specs.Code.{testedOf}
 use Rattle.model.proofs.Bytes.{length-records}
+use Rattle.model.proofs.Replies.{written-fits, written-not}
 use Rattle.model.proofs.Runs.{reached-orderly}
 use Rattle.model.proofs.Numbers.{tried-follows}
 use Rattle.machine.specs.declared.state.Machine.{Machine}
@@ -46,18 +46,18 @@ module _ (g : Program) (m : Machine) (ready : Ready g m) (steps : ℕ) (room : L
   unfinished n = rw (sym finished ∙ not-true f n)
 
   pub too-small : not f ≡ false → length room < 24 → refuse 13 24 room ≡ reported steps room (machineOf g m)
-  unfolding reported written
-  too-small n l = rw (sym finished ∙ not-false f n, lt-leb 24 (length room) l)
+  unfolding reported
+  too-small n l = rw (sym finished ∙ not-false f n) (sym (written-not steps 24 (words (machineOf g m)) room l))
 
   pub reports : not f ≡ false → 24 ≤ length room → (a b : List ℕ) → a ≡ paste room 0 (m .registers) (length (m .registers)) → b ≡ paste a 16 (m .memory) (length (m .memory))
       → done steps b ≡ reported steps room (machineOf g m)
-  unfolding reported written
+  unfolding reported
   reports n l a b ea eb =
-      rw (sym finished ∙ not-false f n, le-leb 24 (length room) l)
+      rw (sym finished ∙ not-false f n)
       (ap (done steps) (
       eb ∙ ap (λ (c : List ℕ). paste c 16 (m .memory) (length (m .memory))) ea ∙ copies (m .registers) (m .memory) room (ready .long .registers) (ready .long .memory) l
       ∙ ap (λ (c : List ℕ). c ++ drop 24 room) (sym (words-are g m ready))
-      ))
+      ) ∙ sym (written-fits steps 24 (words (machineOf g m)) room l))
 
 -- ---- the whole call, which replies with f where the trace leads
 
@@ -65,18 +65,16 @@ module _ (table trace room : List ℕ) (t : Tried) (tries : Tries table trace t)
   abbrev reached : model.Machine
   reached = machineOf (t .program) (t .machine)
 
-  leads : t .verdict ≡ Passed → tried table trace ≡ passed reached
-  leads e = sym (tries .says) ∙ ap (λ (v : Verdict). testedOf v reached) e
+  leads : (v : Verdict) → t .verdict ≡ v → tried table trace ≡ testedOf v reached
+  leads v e = sym (tries .says) ∙ ap (λ (v : Verdict). testedOf v reached) e
 
   pub refuses : (f : model.Machine → Reply) (why : Refusal) (place : ℕ) → t .verdict ≡ Refused why place → refuse (numberOf why) place room ≡ replied room (tried table trace) f
   unfolding replied
-  refuses f why place e =
-      let r : tried table trace ≡ refused (numberOf why) place = sym (tries .says) ∙ ap (λ (v : Verdict). testedOf v reached) e in
-      rw r
+  refuses f why place e = rw (leads (Refused why place) e)
 
   replies : (f : model.Machine → Reply) → t .verdict ≡ Passed → (r : Reply) → r ≡ f reached → r ≡ replied room (tried table trace) f
   unfolding replied
-  replies f e r q = q ∙ rw (leads e)
+  replies f e r q = q ∙ rw (leads Passed e)
 
   -- checking
   pub checks : t .verdict ≡ Passed → (r : Reply) → r ≡ reported (length trace / 8) room reached → r ≡ checked table trace room
@@ -86,7 +84,7 @@ module _ (table trace room : List ℕ) (t : Tried) (tries : Tries table trace t)
   -- finishing: from a state that a run reaches
   pub underway : t .verdict ≡ Passed → Underway (t .program) (t .machine)
   underway e =
-      let f = tried-follows table trace reached .0 (leads e) in
+      let f = tried-follows table trace reached .0 (leads Passed e) in
       record { ready = tries .ready; orderly = reached-orderly (f .entries) (records trace) reached (f .run) }
 
   pub finishes : t .verdict ≡ Passed → (r : Reply) → r ≡ completedAt room reached → r ≡ completed table trace room

@@ -74,6 +74,12 @@ module _ (g : Program) (p at phase : ℕ) where
     pub stands : Stands g p a f
     pub sum : k + weight (leftFrom g p a f) ≡ weight (leftFrom g p at phase)
 
+  -- a step that weighs w is counted too, and less is left to count
+  abbrev pub Past : (k w a f : ℕ) → Bool → Type 0
+  Past k w a f b =
+      Counted (k + w) (cond b (a + 1) a) (cond b 0 (f + 1))
+      × (weight (leftFrom g p (cond b (a + 1) a) (cond b 0 (f + 1))) < weight (leftFrom g p a f))
+
   pub begins : Stands g p at phase → Counted 0 at phase
   begins s = record { stands = s; sum = omega arith }
 
@@ -103,18 +109,11 @@ module _ (g : Program) (p at phase : ℕ) where
         small = let s = c .sum in omega (arith, split, light g p at phase fits)
 
         -- past the step; b says whether it is the last one of the instruction
-        module _ (b : Bool) (last : eqb (f + 1) (stepCount kind) ≡ b) where
-          abbrev a′ : ℕ
-          a′ = cond b (a + 1) a
-
-          abbrev f′ : ℕ
-          f′ = cond b 0 (f + 1)
-
-          rest-is : weight (leftFrom g p a′ f′) ≡ weight (restAt g p a f)
-          rest-is = ap weight (rest-left g p a f (in-table .0) l (c .stands .inside l) b last)
-
-          pub counts : Counted (k + w) a′ f′
-          counts = record { stands = stands-next g p a f fits h (c .stands) l b last; sum = let s = c .sum in omega (arith, split, rest-is) }
-
-          pub falls : weight (leftFrom g p a′ f′) < weight (leftFrom g p a f)
-          falls = let z = some-weight s in omega (arith, split, rest-is)
+        pub past : (b : Bool) → eqb (f + 1) (stepCount kind) ≡ b → Past k w a f b
+        past b last = (
+          record { stands = stands-next g p a f fits h (c .stands) l b last; sum = let s = c .sum in omega (arith, split, rest-is) },
+          let z = some-weight s in omega (arith, split, rest-is),
+        )
+          where
+            rest-is : weight (leftFrom g p (cond b (a + 1) a) (cond b 0 (f + 1))) ≡ weight (restAt g p a f)
+            rest-is = ap weight (rest-left g p a f (in-table .0) l (c .stands .inside l) b last)

@@ -82,7 +82,7 @@ pub record ReadyAt (g : Program) (m : Machine) (p : ℕ) : Type 0 where
   pub room : getD (m .issued) p 0 + writes (todoIn g m p) ≤ instructionsEach
   pub stands : Stands g p (getD (m .at) p 0) (getD (m .phase) p 0)
 
--- of all, and every location in the log is one of the eight
+-- of all four, and every location in the log is one of the eight
 pub record Ready (g : Program) (m : Machine) : Type 0 where
   pub fits : Fits g
   pub long : Long m

@@ -1,11 +1,13 @@
-use mathlib.Core.Bool.{true, false}
-use mathlib.Core.Path.{sym, _∙_}
+use Prim.Native.Nat.{_+_}
+use mathlib.Core.Bool.{Bool, true, false}
+use mathlib.Core.Path.{_≡_, sym, ap, _∙_}
+use lib.Dec.{eqb}
 use borrow.Author.Needs.{needs}
 use borrow.Author.Tests.{eq-eqb, ne-eqb}
 use Rattle.model.specs.Code.{instructionAt}
 use Rattle.machine.specs.View.{leftFrom}
 use Rattle.completion.specs.Weight.{weight}
-use Rattle.completion.proofs.Weights.{Counted, begins, ends, in-table, small, counts, falls}
+use Rattle.completion.proofs.Weights.{Counted, Past, begins, ends, in-table, small, past}
 use Rattle.completion.proofs.left.program_left.Statement.{statement}
 use Rattle.completion.proofs.left.program_left.Tie as tie
 
@@ -59,41 +61,32 @@ add-a c =
     let l = then .if1 .taken in
     search needs
 
-loop-again : tie.Need-loop-again Inv-loop μ-loop
+-- the step is counted
+abbrev top : tie.After-step-count Inv-loop μ-loop → tie.At-loop Inv-loop μ-loop
+top c = c .before .before .before .before .before .before
+
+abbrev begun : tie.After-step-count Inv-loop μ-loop → tie.Start Inv-loop μ-loop
+begun c = top c .before
+
+step-past : (c : tie.After-step-count Inv-loop μ-loop) (b : Bool) → eqb (top c .loop .f + 1) (c .step-count .result) ≡ b
+    → Past (begun c .args .t1) (begun c .args .p) (begun c .args .at) (begun c .args .phase) (top c .loop .k) (c .before .step-weight .result) (top c .loop .a) (top c .loop .f) b
 unfolding instructionAt
-loop-again c =
-    let then = c .before .before .before .before .before in
-    let top = then .before .before in
-    let s = top .before in
-    counts _ _ _ _ (s .pre .0) (s .pre .1) _ _ _ (top .loop .inv) (then .if1 .taken) _ _ (c .before .before .before .step-kind .ensures) (c .before .before .step-weight .ensures) true
-    (eq-eqb _ _ (c .if2 .taken ∙ c .before .step-count .ensures))
+step-past c b last =
+    past _ _ _ _ (begun c .pre .0) (begun c .pre .1) _ _ _ (top c .loop .inv) (c .before .before .before .before .if1 .taken) _ _
+    (c .before .before .step-kind .ensures) (c .before .step-weight .ensures) b
+    (ap (eqb (top c .loop .f + 1)) (sym (c .step-count .ensures)) ∙ last)
+
+loop-again : tie.Need-loop-again Inv-loop μ-loop
+loop-again c = step-past (c .before) true (eq-eqb _ _ (c .if2 .taken)) .0
 
 loop-less : tie.Need-loop-less Inv-loop μ-loop
-unfolding instructionAt
-loop-less c =
-    let then = c .before .before .before .before .before in
-    let top = then .before .before in
-    let s = top .before in
-    falls _ _ _ _ (s .pre .0) (s .pre .1) _ _ _ (top .loop .inv) (then .if1 .taken) _ _ (c .before .before .before .step-kind .ensures) (c .before .before .step-weight .ensures) true
-    (eq-eqb _ _ (c .if2 .taken ∙ c .before .step-count .ensures))
+loop-less c = step-past (c .before) true (eq-eqb _ _ (c .if2 .taken)) .1
 
 loop-again-2 : tie.Need-loop-again-2 Inv-loop μ-loop
-unfolding instructionAt
-loop-again-2 c =
-    let then = c .before .before .before .before .before in
-    let top = then .before .before in
-    let s = top .before in
-    counts _ _ _ _ (s .pre .0) (s .pre .1) _ _ _ (top .loop .inv) (then .if1 .taken) _ _ (c .before .before .before .step-kind .ensures) (c .before .before .step-weight .ensures) false
-    (ne-eqb _ _ (λ e. c .if2 .left (e ∙ sym (c .before .step-count .ensures))))
+loop-again-2 c = step-past (c .before) false (ne-eqb _ _ (c .if2 .left)) .0
 
 loop-less-2 : tie.Need-loop-less-2 Inv-loop μ-loop
-unfolding instructionAt
-loop-less-2 c =
-    let then = c .before .before .before .before .before in
-    let top = then .before .before in
-    let s = top .before in
-    falls _ _ _ _ (s .pre .0) (s .pre .1) _ _ _ (top .loop .inv) (then .if1 .taken) _ _ (c .before .before .before .step-kind .ensures) (c .before .before .step-weight .ensures) false
-    (ne-eqb _ _ (λ e. c .if2 .left (e ∙ sym (c .before .step-count .ensures))))
+loop-less-2 c = step-past (c .before) false (ne-eqb _ _ (c .if2 .left)) .1
 
 returns : tie.Need-returns Inv-loop μ-loop
 returns c =
