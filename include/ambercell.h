@@ -11,7 +11,7 @@
  * a program to begin from.
  *
  * Link with libambercell.a, which `rt staticlib ambercell` writes to target/staticlib: x86-64 with
- * System V calls, as on Linux. It needs memcpy and memset, and nothing else.
+ * System V calls, as on Linux. It needs nothing else to link.
  */
 #ifndef AMBERCELL_H
 #define AMBERCELL_H

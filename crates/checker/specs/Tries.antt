@@ -1,13 +1,15 @@
--- What trying a table and a trace promises.
+-- What trying a table and a trace promises of the verdict v, the program g and the state m.
 use mathlib.Core.Path.{_≡_}
 use mathlib.Core.List.{List}
 use Prim.Native.Nat.{ℕ}
+use Rattle.model.specs.declared.answer.Verdict.{Verdict}
+use Rattle.model.specs.declared.table.Program.{Program}
 use Rattle.model.specs.Calls.{tried}
 use Rattle.model.specs.Code.{testedOf}
+use Rattle.machine.specs.declared.state.Machine.{Machine}
 use Rattle.machine.specs.View.{machineOf}
 use Rattle.machine.specs.Ready.{Ready}
-use Rattle.checker.specs.declared.tried.Tried.{Tried}
 
-pub record Tries (table trace : List ℕ) (r : Tried) : Type 0 where
-  pub says : testedOf (r .verdict) (machineOf (r .program) (r .machine)) ≡ tried table trace
-  pub ready : Ready (r .program) (r .machine)
+pub record Tries (table trace : List ℕ) (v : Verdict) (g : Program) (m : Machine) : Type 0 where
+  pub says : testedOf v (machineOf g m) ≡ tried table trace
+  pub ready : Ready g m

@@ -1,5 +1,3 @@
-pub mod Weights
-pub mod Lefts
-pub mod Movers
+pub mod Carried
 pub mod Chosen
 pub mod Writing

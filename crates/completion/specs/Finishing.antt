@@ -1,10 +1,8 @@
 -- What finishing asks and promises, where g has the programs.
 use mathlib.Core.Path.{_≡_}
-use mathlib.Core.Bool.{cond}
 use mathlib.Core.List.{List, _++_}
 use Prim.Native.Nat.{ℕ, _*_, _≤_, _<_}
 use lib.ListN.{length, drop}
-use lib.Dec.{eqb}
 use Rattle.model.specs.declared.table.Program.{Program}
 use Rattle.model.specs.Sizes.{recordSize}
 use Rattle.model.specs.Record.{fileOf}
@@ -25,10 +23,6 @@ pub record Underway (g : Program) (m : Machine) : Type 0 where
 pub record HasMore (g : Program) (m : Machine) : Type 0 where
   pub underway : Underway g m
   pub more : 0 < left (machineOf g m)
-
--- the kind that asks for a drain where a write waits, or else for the next program step
-abbrev pub drainOrNextIn : ℕ → ℕ → ℕ
-drainOrNextIn drained issued = cond (eqb drained issued) 0 3
 
 -- from m to n by the finishing step, whose event is e
 pub record FinishesBy (g : Program) (m : Machine) (e : Event) (n : Machine) : Type 0 where

@@ -1,3 +1,2 @@
-pub mod Weight
-pub mod Mover
+pub mod Moves
 pub mod Finishing

@@ -1,14 +1,13 @@
 // Completing a run: the steps that finish it, written into the lent room.
 ghost use mathlib.Core.Path.{_≡_};
+ghost use Rattle.model.specs.Code.{columns};
 ghost use Rattle.model.specs.Calls.{completedAt};
 ghost use Rattle.model.specs.Reply.{replyOf};
-ghost use Rattle.rules.specs.Programs.{columns};
 ghost use Rattle.machine.specs.Arrays.{parts};
 ghost use Rattle.machine.specs.View.{machineOf};
 ghost use Rattle.completion.specs.Finishing.{Underway, Completable, completedIn};
 use crate::finishing;
-use crate::left;
-use machine::state::Machine;
+use ending::left;
 use model::answer::Answer;
 use model::answer::Refusal;
 use model::record::Record;
@@ -63,47 +62,49 @@ fn complete_parts<'a>(
     }
 }
 
-// The answer where the trace leads to the state m: 13, or k and its steps.
-pub fn complete(program: Program, m: Machine, room: &mut [u8]) -> Answer
-    requires { ⌜ Underway program m ⌝ }
-    ensures { λ r. ⌜ replyOf r (now (room .exit)) ≡ completedAt (now (room .entry)) (machineOf program m) ⌝ }
+// The answer where the trace leads to the state that these arrays hold: 13, or k and its steps, which are taken on the arrays.
+pub fn complete<'a>(
+    kinds: &'a [u8; Program::PLACES],
+    operands: &'a [u8; Program::PLACES],
+    targets: &'a [u8; Program::PLACES],
+    constants: &'a [u32; Program::PLACES],
+    counts: &'a [usize; Program::PROCESSORS],
+    registers: &'a mut [u32; Cells::ALL_REGISTERS],
+    memory: &'a mut [u32; Cells::LOCATIONS],
+    kept: &'a mut [u32; Program::PROCESSORS],
+    at: &'a mut [usize; Program::PROCESSORS],
+    phase: &'a mut [usize; Program::PROCESSORS],
+    locations: &'a mut [u8; Program::PLACES],
+    values: &'a mut [u32; Program::PLACES],
+    issued: &'a mut [usize; Program::PROCESSORS],
+    drained: &'a mut [usize; Program::PROCESSORS],
+    holder: &'a mut usize,
+    room: &mut [u8],
+) -> Answer
+    requires { ⌜ Underway (columns (now kinds) (now operands) (now targets) (now constants) (now counts)) (parts (now registers) (now memory) (now kept) (now at) (now phase) (now locations) (now values) (now issued) (now drained) (now holder)) ⌝ }
+    ensures { λ r. ⌜ replyOf r (now (room .exit)) ≡ completedAt (now (room .entry)) (machineOf (columns (now (kinds .entry)) (now (operands .entry)) (now (targets .entry)) (now (constants .entry)) (now (counts .entry))) (parts (now (registers .entry)) (now (memory .entry)) (now (kept .entry)) (now (at .entry)) (now (phase .entry)) (now (locations .entry)) (now (values .entry)) (now (issued .entry)) (now (drained .entry)) (now (holder .entry)))) ⌝ }
 {
-    let k = left::left(program, m);
+    let k = left::left(kinds, counts, at, phase, issued, drained);
     let needed = Record::BYTES * k;
     if room.len() < needed {
         return Answer::Refused(Refusal::RoomTooSmall, needed);
     }
-    let kinds = program.kinds;
-    let operands = program.registers;
-    let targets = program.locations;
-    let constants = program.values;
-    let counts = program.counts;
-    let mut registers = m.registers;
-    let mut memory = m.memory;
-    let mut kept = m.kept;
-    let mut at = m.at;
-    let mut phase = m.phase;
-    let mut locations = m.locations;
-    let mut values = m.values;
-    let mut issued = m.issued;
-    let mut drained = m.drained;
-    let mut holder = m.holder;
     complete_parts(
-        &kinds,
-        &operands,
-        &targets,
-        &constants,
-        &counts,
-        &mut registers,
-        &mut memory,
-        &mut kept,
-        &mut at,
-        &mut phase,
-        &mut locations,
-        &mut values,
-        &mut issued,
-        &mut drained,
-        &mut holder,
+        kinds,
+        operands,
+        targets,
+        constants,
+        counts,
+        registers,
+        memory,
+        kept,
+        at,
+        phase,
+        locations,
+        values,
+        issued,
+        drained,
+        holder,
         k,
         room,
     );

@@ -1,24 +1,14 @@
 // One finishing step.
-ghost use Rattle.rules.specs.Programs.{columns};
+ghost use Rattle.model.specs.Code.{columns};
 ghost use Rattle.machine.specs.Arrays.{parts};
-ghost use mathlib.Core.Path.{_≡_};
-ghost use Rattle.completion.specs.Finishing.{HasMore, drainOrNextIn, FinishesBy};
-use crate::mover;
-use machine::apply;
-use machine::offered;
+ghost use Rattle.completion.specs.Finishing.{HasMore, FinishesBy};
+use crate::moves;
+use effects::store;
+use ending::mover;
 use model::record::Record;
 use model::table::Cells;
 use model::table::Program;
 use rules::program;
-use rules::program::DRAIN;
-use rules::program::NONE;
-
-// The kind to ask for: DRAIN if a write waits; otherwise NONE, which asks for the next program step.
-fn drain_or_next(drained: usize, issued: usize) -> u8
-    ensures { λ r. ⌜ r ≡ drainOrNextIn drained issued ⌝ }
-{
-    if drained == issued { NONE } else { DRAIN }
-}
 
 // Takes the finishing step on the arrays of a state, where kinds to counts are the columns of the program, and answers its event.
 pub fn finishing_step<'a>(
@@ -42,33 +32,31 @@ pub fn finishing_step<'a>(
     ensures { λ e. ⌜ FinishesBy (columns (now (kinds .entry)) (now (operands .entry)) (now (targets .entry)) (now (constants .entry)) (now (counts .entry))) (parts (now (registers .entry)) (now (memory .entry)) (now (kept .entry)) (now (at .entry)) (now (phase .entry)) (now (locations .entry)) (now (values .entry)) (now (issued .entry)) (now (drained .entry)) (now (holder .entry))) e (parts (now (registers .exit)) (now (memory .exit)) (now (kept .exit)) (now (at .exit)) (now (phase .exit)) (now (locations .exit)) (now (values .exit)) (now (issued .exit)) (now (drained .exit)) (now (holder .exit))) ⌝ }
 {
     let p = mover::mover(at, counts, drained, issued, *holder);
-    let i = program::fetch(kinds, operands, targets, constants, counts, p, at[p]);
-    let kind = drain_or_next(drained[p], issued[p]);
-    let e = offered::offered_to(
+    let d = drained[p];
+    if d != issued[p] {
+        return moves::drain_oldest(memory, drained, locations, values, p, d);
+    }
+    let place = Program::INSTRUCTIONS * p + at[p];
+    let kind = kinds[place];
+    let r = operands[place];
+    let y = targets[place];
+    let constant = constants[place];
+    let next = program::step_kind(kind, phase[p]);
+    let e = moves::carry_out(
         registers,
         memory,
         kept,
-        phase,
         locations,
         values,
         issued,
-        drained,
-        i,
-        kind,
-    );
-    apply::apply(
-        registers,
-        memory,
-        kept,
-        at,
-        phase,
-        locations,
-        values,
-        issued,
-        drained,
         holder,
-        i,
-        e,
+        kind,
+        p,
+        r,
+        y,
+        constant,
+        next,
     );
+    store::advance(at, phase, kind, p);
     e
 }

@@ -1,5 +1,4 @@
-// Finishing a run: the steps left, who moves, and the steps that finish it.
+// Finishing a run: the finishing step, and the steps that complete it.
 pub mod complete;
 mod finishing;
-mod left;
-mod mover;
+mod moves;

@@ -1,5 +1,5 @@
 // A trace, record by record.
-ghost use Rattle.rules.specs.Programs.{columns};
+ghost use Rattle.model.specs.Code.{columns};
 ghost use Rattle.machine.specs.Arrays.{parts};
 ghost use Rattle.machine.specs.Ready.{Ready};
 ghost use Rattle.following.specs.Follows.{Takes, FollowsTo};

@@ -9,27 +9,23 @@ use model::answer::Refusal;
 use model::answer::Verdict;
 use model::record::Record;
 use record::fields;
+use rules::program::DRAIN;
+use rules::program::NONE;
+use rules::program::READ;
+use rules::program::WRITE;
 
 const ROWS: usize = 8;
 
 // Does a kind of step use processor, register, location, value?
-const USES: [[bool; 4]; ROWS] = [
-    [false, false, false, false], // 0 no kind
-    [true, false, true, true], // 1 read
-    [true, false, true, true], // 2 write
-    [true, false, true, true], // 3 drain
-    [true, false, false, false], // 4 fence
-    [true, false, false, false], // 5 lock
-    [true, false, false, false], // 6 unlock
-    [true, false, false, false], // 7 local
-];
-
 fn used_by(kind: u8) -> [bool; 4]
     requires { do ⌜ kind < (← ⟦ROWS⟧) ⌝ }
     ensures { λ u. ⌜ u ≡ rowOf stepUses kind ⌝ }
 {
-    let k = kind as usize;
-    USES[k]
+    match kind {
+        NONE => [false, false, false, false],
+        READ | WRITE | DRAIN => [true, false, true, true],
+        _ => [true, false, false, false], // fence, lock, unlock, local
+    }
 }
 
 // Tests 9, 10 of record i.

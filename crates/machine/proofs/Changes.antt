@@ -17,7 +17,8 @@ use Rattle.machine.specs.declared.state.Machine.{Machine}
 use Rattle.rules.specs.Offers.{writesIn}
 use Rattle.machine.specs.View.{waitingIn, todoIn, processorOf, holderOf, machineOf}
 use Rattle.machine.specs.Arrays.{parts}
-use Rattle.machine.specs.Stores.{isLast, nextAt, assignedIn, advancedIn, drainedIn, heldIn}
+use Rattle.effects.specs.Stores.{isLast, nextAt}
+use Rattle.machine.specs.Stores.{assignedIn, advancedIn, drainedIn, heldIn}
 use Rattle.machine.specs.Ready.{Own, Long}
 use Rattle.machine.proofs.Logs.{pushedIn, Bounds, pushed-own, pushed-other, newerIn}
 
@@ -148,15 +149,15 @@ module _ (g : Program) where
 
   -- the two numbers of i's processor after it
   pub at-next : (at phase : List ℕ) (i : Record) → i .processor < length at
-      → getD (nextAt at phase i) (i .processor) 0 ≡ cond (isLast phase i) (getD at (i .processor) 0 + 1) (getD at (i .processor) 0)
-  at-next at phase i h = go (isLast phase i)
+      → getD (nextAt at phase (i .kind) (i .processor)) (i .processor) 0 ≡ cond (isLast phase (i .kind) (i .processor)) (getD at (i .processor) 0 + 1) (getD at (i .processor) 0)
+  at-next at phase i h = go (isLast phase (i .kind) (i .processor))
     where
       go : (b : Bool) → getD (cond b (set at (i .processor) (getD at (i .processor) 0 + 1)) at) (i .processor) 0 ≡ cond b (getD at (i .processor) 0 + 1) (getD at (i .processor) 0)
       go true = getD-set-same at (i .processor) (getD at (i .processor) 0 + 1) 0 h
       go false = refl
 
-  pub at-other : (at phase : List ℕ) (i : Record) (q : ℕ) → ¬ (q ≡ i .processor) → getD (nextAt at phase i) q 0 ≡ getD at q 0
-  at-other at phase i q n = go (isLast phase i)
+  pub at-other : (at phase : List ℕ) (i : Record) (q : ℕ) → ¬ (q ≡ i .processor) → getD (nextAt at phase (i .kind) (i .processor)) q 0 ≡ getD at q 0
+  at-other at phase i q n = go (isLast phase (i .kind) (i .processor))
     where
       go : (b : Bool) → getD (cond b (set at (i .processor) (getD at (i .processor) 0 + 1)) at) q 0 ≡ getD at q 0
       go true = getD-set-other at (i .processor) q (getD at (i .processor) 0 + 1) 0 n
@@ -175,7 +176,7 @@ module _ (g : Program) where
     others = λ q k n j. record {
       todo =
           let a = at-other (m .at) (m .phase) i q n j in
-          let f = getD-set-other (m .phase) (i .processor) q (cond (isLast (m .phase) i) 0 (getD (m .phase) (i .processor) 0 + 1)) 0 n j in
+          let f = getD-set-other (m .phase) (i .processor) q (cond (isLast (m .phase) (i .kind) (i .processor)) 0 (getD (m .phase) (i .processor) 0 + 1)) 0 n j in
           drop f (stepsFrom g q a (countIn g q - a));
       kept = getD (m .kept) q 0;
       registers = row registersEach q (m .registers);

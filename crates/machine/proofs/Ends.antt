@@ -16,14 +16,14 @@ use Rattle.model.specs.Code.{countIn}
 use Rattle.model.proofs.Rows.{rows-whole}
 use Rattle.machine.specs.declared.state.Machine.{Machine}
 use Rattle.machine.specs.View.{todoIn, processorOf, machineOf}
-use Rattle.machine.specs.Arrays.{doneIn}
+use Rattle.machine.specs.Arrays.{doneAt, finishedIn}
 use Rattle.machine.specs.Ready.{ReadyAt, Ready}
 use Rattle.machine.proofs.Todo.{none-left, next-left}
 use Rattle.machine.proofs.Logs.{waits-none}
 
 module _ (g : Program) (m : Machine) (ready : Ready g m) where
   abbrev done : ℕ → Bool
-  done p = doneIn (getD (m .at) p 0) (countIn g p) (getD (m .drained) p 0) (getD (m .issued) p 0)
+  done p = doneAt (m .at) (g .counts) (m .drained) (m .issued) p
 
   at-end : (p : ℕ) → p < processors → isEmpty (todoIn g m p) ≡ eqb (getD (m .at) p 0) (countIn g p)
   unfolding isEmpty todoIn
@@ -57,11 +57,11 @@ module _ (g : Program) (m : Machine) (ready : Ready g m) where
   four-and true false c d = refl
   four-and false b c d = refl
 
-  pub finished-is : (a b c d : Bool) → a ≡ done 0 → b ≡ done 1 → c ≡ done 2 → d ≡ done 3 → (a && b && c && d) ≡ isFinished (machineOf g m)
+  pub finished-is : finishedIn (m .at) (g .counts) (m .drained) (m .issued) ≡ isFinished (machineOf g m)
   unfolding isFinished machineOf areDone
-  finished-is a b c d ea eb ec ed =
-      four-and a b c d
-      ∙ (λ j. (ea ∙ sym (done-is 0 (lit< tt))) j && ((eb ∙ sym (done-is 1 (lit< tt))) j && ((ec ∙ sym (done-is 2 (lit< tt))) j && ((ed ∙ sym (done-is 3 (lit< tt))) j && true))))
+  finished-is =
+      four-and (done 0) (done 1) (done 2) (done 3)
+      ∙ (λ j. sym (done-is 0 (lit< tt)) j && (sym (done-is 1 (lit< tt)) j && (sym (done-is 2 (lit< tt)) j && (sym (done-is 3 (lit< tt)) j && true))))
 
   -- the words of a result
   pub words-are : words (machineOf g m) ≡ m .registers ++ m .memory

@@ -20,7 +20,8 @@ use Rattle.machine.specs.View.{todoIn}
 use Rattle.rules.specs.Steps.{stepKind, stepCount}
 use Rattle.machine.specs.Arrays.{nextOf}
 use Rattle.rules.specs.Offers.{nextIn}
-use Rattle.machine.specs.Stores.{nextPlace, isLast, nextAt, nextPhase, advancedIn, assignedIn, heldIn, carriedOut}
+use Rattle.effects.specs.Stores.{nextPlace, isLast, nextAt, nextPhase}
+use Rattle.machine.specs.Stores.{advancedIn, assignedIn, heldIn, carriedOut}
 use Rattle.machine.specs.Ready.{Long, Stands, ReadyAt, Ready}
 use Rattle.rules.specs.Programs.{Fetched}
 use Rattle.machine.proofs.Todo.{stepFor, by-kind, stands-next}
@@ -128,12 +129,12 @@ module _ (g : Program) (m : Machine) (ready : Ready g m) (i : Record) (here : Fe
 
     module _ (c : Machine) (k : Carried c) where
       abbrev last : Bool
-      last = isLast (m .phase) i
+      last = isLast (m .phase) (i .kind) p
 
-      at-is : getD (nextAt (c .at) (c .phase) i) p 0 ≡ cond last (a + 1) a
+      at-is : getD (nextAt (c .at) (c .phase) (i .kind) p) p 0 ≡ cond last (a + 1) a
       at-is = rw (k .at, k .phase) (at-next g (m .at) (m .phase) i (rw (ready .long .at) h))
 
-      phase-is : getD (nextPhase (c .phase) i) p 0 ≡ cond last 0 (f + 1)
+      phase-is : getD (nextPhase (c .phase) (i .kind) p) p 0 ≡ cond last 0 (f + 1)
       phase-is = rw (k .phase) (getD-set-same (m .phase) p (cond last 0 (f + 1)) 0 (rw (ready .long .phase) h))
 
       kind-is : i .kind ≡ instructionAt g p a .kind
@@ -161,8 +162,8 @@ module _ (g : Program) (m : Machine) (ready : Ready g m) (i : Record) (here : Fe
       ready-other : (q : ℕ) → q < processors → ¬ (q ≡ p) → ReadyAt g (advancedIn c i) q
       ready-other q o x =
           let y = ready .each q o in
-          let ea : getD (nextAt (c .at) (c .phase) i) q 0 ≡ getD (m .at) q 0 = rw (k .at, k .phase) (at-other g (m .at) (m .phase) i q x) in
-          let ef : getD (nextPhase (c .phase) i) q 0 ≡ getD (m .phase) q 0 = rw (k .phase) (getD-set-other (m .phase) p q (cond last 0 (f + 1)) 0 x) in
+          let ea : getD (nextAt (c .at) (c .phase) (i .kind) p) q 0 ≡ getD (m .at) q 0 = rw (k .at, k .phase) (at-other g (m .at) (m .phase) i q x) in
+          let ef : getD (nextPhase (c .phase) (i .kind) p) q 0 ≡ getD (m .phase) q 0 = rw (k .phase) (getD-set-other (m .phase) p q (cond last 0 (f + 1)) 0 x) in
           record {
             order = rw (k .drained, k .others q x) (y .order);
             room = rw (k .others q x, todo-other q x) (y .room);

@@ -9,7 +9,8 @@ use Rattle.model.specs.Sizes.{processors, registersEach, locations, instruction
 use Rattle.model.specs.Rules.{Event}
 use Rattle.machine.specs.declared.state.Machine.{Machine}
 use Rattle.machine.specs.Arrays.{parts}
-use Rattle.machine.specs.Stores.{isLast, advancedIn, drainedIn}
+use Rattle.effects.specs.Stores.{isLast}
+use Rattle.machine.specs.Stores.{advancedIn, drainedIn}
 use Rattle.machine.specs.Ready.{Long}
 
 pub set-long : (xs : List ℕ) (k x n : ℕ) → length xs ≡ n → length (set xs k x) ≡ n
@@ -40,7 +41,7 @@ module _ (m : Machine) (l : Long m) where
     registers = l .registers;
     memory = l .memory;
     kept = l .kept;
-    at = either-long (isLast (m .phase) i) _ _ processors (set-long (m .at) _ _ processors (l .at)) (l .at);
+    at = either-long (isLast (m .phase) (i .kind) (i .processor)) _ _ processors (set-long (m .at) _ _ processors (l .at)) (l .at);
     phase = set-long (m .phase) _ _ processors (l .phase);
     logLocations = l .logLocations;
     logValues = l .logValues;

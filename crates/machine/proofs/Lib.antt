@@ -11,7 +11,7 @@ pub mod Lengths
 pub mod Keeps
 pub mod Taken
 -- ---- the code's functions
-pub mod Stores
+pub mod Nexts
 pub mod Taking
 pub mod Starts
 pub mod Ends

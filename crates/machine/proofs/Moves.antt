@@ -198,12 +198,12 @@ module _ (g : Program) (m : Machine) (ready : Ready g m) (i : Record) (own : Own
         (λ j. move (R p x (seen-is j)) (not-blocked (m .holder) p j) (withProcessor M p (received (processor M p) rest (targetOf i) (seen-is j))))
         ∙ ap (move (R p x (newest (waitingIn m p) x (getD (m .memory) x 0))) (notBlockedIn (m .holder) p)) (read-is x (newest (waitingIn m p) x (getD (m .memory) x 0)))
 
-    issued-is : issued (processor M p) (sourceOf i) ≡ issuedBy i (getD (m .kept) p 0) (getD (m .registers) (registerOf i) 0)
+    issued-is : issued (processor M p) (sourceOf i) ≡ issuedBy (i .kind) (i .value) (getD (m .kept) p 0) (getD (m .registers) (registerOf i) 0)
     unfolding processorOf
     issued-is =
         let r = own .register in
         ap (λ (P : Processor). issued P (sourceOf i)) processor-here ∙ issues i (processorOf g m p) high
-        ∙ ap (issuedBy i (getD (m .kept) p 0)) (slice-get (registersEach * p) (registersEach * p + registersEach) (i .register) (m .registers) (omega arith))
+        ∙ ap (issuedBy (i .kind) (i .value) (getD (m .kept) p 0)) (slice-get (registersEach * p) (registersEach * p + registersEach) (i .register) (m .registers) (omega arith))
 
     offers-write : n < instructionsEach → Offers 2
     unfolding nextMove nextIn

@@ -26,13 +26,14 @@ use Rattle.rules.specs.Programs.{fetched, Fetched}
 use Rattle.rules.specs.Guards.{permits}
 use Rattle.rules.specs.Offers.{nextIn, offeredIn}
 use Rattle.machine.specs.Arrays.{oldestOf, nextOf, offeredOf, isDry}
-use Rattle.machine.specs.Stores.{isLast, advancedIn, afterEvent}
+use Rattle.effects.specs.Stores.{isLast}
+use Rattle.machine.specs.Stores.{advancedIn, afterEvent}
 use Rattle.machine.specs.Ready.{Own, ReadyAt, Ready}
 use Rattle.machine.proofs.Todo.{stepFor, restAt, none-left, next-left, rest-left}
 use Rattle.machine.proofs.Changes.{processor-is, at-next}
 use Rattle.machine.proofs.Moves.{offer, oldest-offer, offers}
 
-unlike : (e o : Event) → ¬ (e .kind ≡ o .kind) → same e o ≡ false
+pub unlike : (e o : Event) → ¬ (e .kind ≡ o .kind) → same e o ≡ false
 unfolding same
 unlike e o n = rw (ne-eqb (e .kind) (o .kind) n)
 
@@ -86,9 +87,9 @@ module _ (g : Program) (m : Machine) (ready : Ready g m) (i : Record) (here : Fe
           ea,
           ef,
           at-next g (m .at) (m .phase) i (rw (ready .long .at) h),
-          getD-set-same (m .phase) p (cond (isLast (m .phase) i) 0 (f + 1)) 0 (rw (ready .long .phase) h),
+          getD-set-same (m .phase) p (cond (isLast (m .phase) (i .kind) p) 0 (f + 1)) 0 (rw (ready .long .phase) h),
         )
-        (rest-left g p a f high l (at .stands .inside l) (isLast (m .phase) i) (ap (λ (k : ℕ). eqb (f + 1) (stepCount k)) (sym kind-is)))
+        (rest-left g p a f high l (at .stands .inside l) (isLast (m .phase) (i .kind) p) (ap (λ (k : ℕ). eqb (f + 1) (stepCount k)) (sym kind-is)))
 
   -- ---- past its end
 

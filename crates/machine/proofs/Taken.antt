@@ -1,4 +1,4 @@
--- A step that is taken may be stored, and keeps what holds of the arrays at every step.
+-- A step that is taken keeps what holds of the arrays at every step.
 use mathlib.Core.Path.{_≡_, refl, sym, ap, _∙_, subst}
 use mathlib.Core.Bool.{Bool, true, false, cond}
 use mathlib.Core.List.{_∷_}
@@ -6,15 +6,13 @@ use Prim.Native.Nat.{ℕ, suc, _+_, _<_}
 use native.Mathlib.Omega.{arith}
 use lib.ListN.{getD}
 use lib.Seq.{getD-set-same, getD-set-other}
-use lib.Dec.{eqb, ltb, lit<}
+use lib.Dec.{eqb, ltb}
 use borrow.Author.Tests.{eqb-true, eqb-false, ne-eqb, ltb-true, ltb-false}
 use Rattle.model.specs.declared.record.Record.{Record}
 use Rattle.model.specs.declared.table.Program.{Program}
-use Rattle.model.specs.Program.{write}
-use Rattle.model.specs.Sizes.{processors, locations, instructionsEach}
+use Rattle.model.specs.Sizes.{processors, instructionsEach}
 use Rattle.model.specs.Left.{writes}
 use Rattle.model.specs.Rules.{Event, event}
-use Rattle.model.specs.Step.{same}
 use Rattle.model.specs.Code.{countIn}
 use Rattle.model.proofs.Bools.{and-left, same-true}
 use Rattle.machine.specs.declared.state.Machine.{Machine}
@@ -23,7 +21,8 @@ use Rattle.rules.specs.Steps.{stepsOfKind, stepKind}
 use Rattle.machine.specs.Arrays.{oldestOf, nextOf, offeredOf}
 use Rattle.rules.specs.Offers.{nextIn, oldestIn, offeredIn}
 use Rattle.machine.specs.Stores.{drainedIn, carriedOut, afterEvent}
-use Rattle.machine.specs.Ready.{Own, Onward, Storable, ReadyAt, Ready}
+use Rattle.effects.specs.Stores.{Onward}
+use Rattle.machine.specs.Ready.{ReadyAt, Ready}
 use Rattle.rules.specs.Programs.{Fetched}
 use Rattle.machine.proofs.Todo.{stepFor, by-kind}
 use Rattle.machine.proofs.Sim.{is-instruction, is-none, rest, todo-next, allowed}
@@ -49,9 +48,9 @@ module _ (g : Program) (m : Machine) (ready : Ready g m) (i : Record) (here : Fe
   -- ---- the program step that is offered
 
   abbrev Fields : Event → ℕ → Type 0
-  Fields e k = (e .kind ≡ k) × (e .processor ≡ p) × (e .location < locations)
+  Fields e k = (e .kind ≡ k) × (e .register ≡ 0)
 
-  next-fields : (k : ℕ) → Fields (nextOf m i k) k
+  pub next-fields : (k : ℕ) → Fields (nextOf m i k) k
   unfolding nextIn
   next-fields k = go (eqb k 1) refl (eqb k 2) refl _ _
     where
@@ -59,9 +58,9 @@ module _ (g : Program) (m : Machine) (ready : Ready g m) (i : Record) (here : Fe
       x = i .location
 
       go : (b : Bool) → eqb k 1 ≡ b → (c : Bool) → eqb k 2 ≡ c → (v w : ℕ) → Fields (cond b (event 1 p x v) (cond c (event 2 p x w) (event k p 0 0))) k
-      go true e c y v w = (sym (eqb-true k 1 e), refl, here .location)
-      go false e true y v w = (sym (eqb-true k 2 y), refl, here .location)
-      go false e false y v w = (refl, refl, lit< tt)
+      go true e c y v w = (sym (eqb-true k 1 e), refl)
+      go false e true y v w = (sym (eqb-true k 2 y), refl)
+      go false e false y v w = (refl, refl)
 
   -- ---- the drain
 
@@ -91,16 +90,13 @@ module _ (g : Program) (m : Machine) (ready : Ready g m) (i : Record) (here : Fe
   -- ---- either
 
   abbrev Taken : Event → Type 0
-  Taken o = Storable m i o × Ready g (afterEvent m i o)
+  Taken o = Ready g (afterEvent m i o)
 
-  own : Own i
-  own = record { processor = h; register = here .register }
-
-  onward : Onward (m .at) (m .phase) i
-  onward = let x = at .stands .at in let y = ready .fits .few p in record { processor = h; kind = here .kind; at = omega arith; low = at .stands .phase }
+  pub onward : Onward (m .at) (m .phase) (i .kind) p
+  onward = let x = at .stands .at in let y = ready .fits .few p in record { processor = h; known = here .kind; at = omega arith; low = at .stands .phase }
 
   -- a program step is offered only inside the program
-  inside : 0 < stepKind (i .kind) f → a < countIn g p
+  pub inside : 0 < stepKind (i .kind) f → a < countIn g p
   unfolding stepKind stepsOfKind
   inside z = go (ltb a (countIn g p)) refl
     where
@@ -112,12 +108,12 @@ module _ (g : Program) (m : Machine) (ready : Ready g m) (i : Record) (here : Fe
           absurd (omega arith)
 
   module _ (l : a < countIn g p) where
-    not-drain : ¬ (stepKind (i .kind) f ≡ 3)
+    pub not-drain : ¬ (stepKind (i .kind) f ≡ 3)
     not-drain =
         by-kind (λ k. ¬ (k ≡ 3)) (λ z. omega arith) (λ z. omega arith) (λ z. omega arith) (λ z. omega arith) (λ z. omega arith) (λ z. omega arith) (i .kind) f (here .kind)
         (rw (ap (λ (r : Record). r .kind) (is-instruction g m ready i here h l)) (at .stands .inside l))
 
-    room : stepKind (i .kind) f ≡ 2 → n < instructionsEach
+    pub room : stepKind (i .kind) f ≡ 2 → n < instructionsEach
     unfolding writes
     room z =
         let t = todo-next g m ready i here h l in
@@ -130,38 +126,16 @@ module _ (g : Program) (m : Machine) (ready : Ready g m) (i : Record) (here : Fe
     next-taken =
         let o = nextOf m i (stepKind (i .kind) f) in
         let fields = next-fields (stepKind (i .kind) f) in
-        let other : ¬ (o .kind ≡ 3) = λ z. not-drain (sym (fields .0) ∙ z) in (
-          record {
-            own = own;
-            onward = onward;
-            same = fields .1;
-            location = fields .2;
-            write = λ z. record { processor = h; few = room (sym (fields .0) ∙ z) };
-            drain = λ z. absurd (other z);
-          },
-          rw (ne-eqb (o .kind) 3 other) (ready-advanced g m ready i here h l (carriedOut m i o) (carries g m ready i here h l)),
-        )
+        let other : ¬ (o .kind ≡ 3) = λ z. not-drain (sym (fields .0) ∙ z) in
+        rw (ne-eqb (o .kind) 3 other) (ready-advanced g m ready i here h l (carriedOut m i o) (carries g m ready i here h l))
 
   drain-taken : 0 < oldestOf m i .kind → Taken (oldestOf m i)
   unfolding oldestIn afterEvent
-  drain-taken = go (eqb d n) refl _ _ (ready .inLog _)
+  drain-taken = go (eqb d n) refl _ _
     where
-      go : (c : Bool) → eqb d n ≡ c → (x v : ℕ) → x < locations → 0 < cond c (event 0 p 0 0) (event 3 p x v) .kind → Taken (cond c (event 0 p 0 0) (event 3 p x v))
-      go true w x v b z = absurd (omega arith)
-      go false w x v b z =
-          let o = at .order in
-          let y = at .room in
-          let l : d < n = omega (arith, eqb-false d n w) in (
-            record {
-              own = own;
-              onward = onward;
-              same = refl;
-              location = b;
-              write = λ z. absurd (omega arith);
-              drain = λ z. omega arith;
-            },
-            ready-drained x v l,
-          )
+      go : (c : Bool) → eqb d n ≡ c → (x v : ℕ) → 0 < cond c (event 0 p 0 0) (event 3 p x v) .kind → Taken (cond c (event 0 p 0 0) (event 3 p x v))
+      go true w x v z = absurd (omega arith)
+      go false w x v z = let o = at .order in ready-drained x v (omega (arith, eqb-false d n w))
 
   -- whatever is offered, if it is a step, may be taken
   pub offered-taken : (k : ℕ) → 0 < offeredOf m i k .kind → Taken (offeredOf m i k)

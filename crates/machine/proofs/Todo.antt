@@ -67,7 +67,7 @@ module _ (r : Record) where
 -- what its write issues
 module _ (r : Record) (P : Processor) where
   abbrev Issues : ℕ → Type 0
-  Issues k = issued P (sourceOf (ofKind r k)) ≡ issuedBy (ofKind r k) (P .kept) (getD (P .registers) (r .register) 0)
+  Issues k = issued P (sourceOf (ofKind r k)) ≡ issuedBy (ofKind r k .kind) (ofKind r k .value) (P .kept) (getD (P .registers) (r .register) 0)
 
   pub issues : r .kind < tableRows → Issues (r .kind)
   unfolding issued

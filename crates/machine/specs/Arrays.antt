@@ -38,6 +38,15 @@ startIn c =
 abbrev pub doneIn : (at count drained issued : ℕ) → Bool
 doneIn at count drained issued = eqb at count && eqb drained issued
 
+-- processor p, and all four
+abbrev pub doneAt : (at counts drained issued : List ℕ) → ℕ → Bool
+doneAt at counts drained issued p = doneIn (getD at p 0) (getD counts p 0) (getD drained p 0) (getD issued p 0)
+
+abbrev pub finishedIn : (at counts drained issued : List ℕ) → Bool
+finishedIn at counts drained issued =
+    let done : ℕ → Bool = doneAt at counts drained issued in
+    done 0 && done 1 && done 2 && done 3
+
 -- ---- the step that a processor can come to in it
 
 abbrev pub issuedNow : Machine → Record → ℕ
@@ -57,11 +66,7 @@ nextOf m i k =
     nextIn (m .locations) (m .values) (issuedNow m i) (drainedNow m i) (getD (m .kept) (i .processor) 0) (getD (m .registers) (registerOf i) 0)
     (getD (m .memory) (i .location) 0) i k
 
-abbrev pub offeredFrom : (registers memory kept phase locations values issued drained : List ℕ) → Record → ℕ → Event
-offeredFrom registers memory kept phase locations values issued drained i k =
-    let p = i .processor in
-    offeredIn locations values (getD issued p 0) (getD drained p 0) (getD kept p 0) (getD registers (registerOf i) 0) (getD memory (i .location) 0) i
-    (getD phase p 0) k
-
 abbrev pub offeredOf : Machine → Record → ℕ → Event
-offeredOf m i k = offeredFrom (m .registers) (m .memory) (m .kept) (m .phase) (m .locations) (m .values) (m .issued) (m .drained) i k
+offeredOf m i k =
+    offeredIn (m .locations) (m .values) (issuedNow m i) (drainedNow m i) (getD (m .kept) (i .processor) 0) (getD (m .registers) (registerOf i) 0)
+    (getD (m .memory) (i .location) 0) i (getD (m .phase) (i .processor) 0) k

@@ -1,4 +1,5 @@
 pub mod View
 pub mod Arrays
 pub mod Stores
+pub mod Next
 pub mod Ready

@@ -1,13 +1,10 @@
 -- What holds of the arrays at every step, and what a step promises.
 use mathlib.Core.Path.{_≡_}
-use mathlib.Core.List.{List}
 use Prim.Native.Nat.{ℕ, _+_, _*_, _≤_, _<_}
 use mathlib.Core.Bool.{Bool, true, false}
 use lib.ListN.{length, getD}
 use Rattle.model.specs.declared.record.Record.{Record}
-use Rattle.model.specs.Sizes as sizes
 use Rattle.model.specs.Sizes.{processors, registersEach, locations, instructionsEach}
-use Rattle.model.specs.Kinds.{tableRows}
 use Rattle.model.specs.declared.table.Program.{Program}
 use Rattle.model.specs.Machine as model
 use Rattle.model.specs.Left.{writes}
@@ -16,46 +13,12 @@ use Rattle.model.specs.Code.{instructionAt, countIn, Fits}
 use Rattle.model.specs.Rules.{Event}
 use Rattle.machine.specs.declared.state.Machine.{Machine}
 use Rattle.rules.specs.Steps.{phases, stepCount}
-use Rattle.rules.specs.Offers.{Offerable}
 use Rattle.machine.specs.View.{todoIn, machineOf}
 
 -- an instruction's own register
 pub record Own (i : Record) : Type 0 where
   pub processor : i .processor < processors
   pub register : i .register < registersEach
-
--- there is room for a write
-pub record Issuable (issued : List ℕ) (p : ℕ) : Type 0 where
-  pub processor : p < processors
-  pub few : getD issued p 0 < instructionsEach
-
--- there is a write to drain
-pub record Drainable (drained : List ℕ) (e : Event) : Type 0 where
-  pub processor : e .processor < processors
-  pub location : e .location < locations
-  pub few : getD drained (e .processor) 0 < instructionsEach
-
--- i's processor may go on: its numbers do not run over
-pub record Onward (ats taken : List ℕ) (i : Record) : Type 0 where
-  pub processor : i .processor < processors
-  pub kind : i .kind < tableRows
-  pub at : getD ats (i .processor) 0 ≤ instructionsEach
-  pub low : getD taken (i .processor) 0 < phases
-
--- what the stores of the step e ask
-pub record Storable (m : Machine) (i : Record) (e : Event) : Type 0 where
-  pub own : Own i
-  pub onward : Onward (m .at) (m .phase) i
-  pub same : e .processor ≡ i .processor
-  pub location : e .location < locations
-  pub write : e .kind ≡ 2 → Issuable (m .issued) (i .processor)
-  pub drain : e .kind ≡ 3 → getD (m .drained) (i .processor) 0 < instructionsEach
-
--- what the step that is offered to i's processor asks
-pub record MayOffer (phase locations values issued drained : List ℕ) (i : Record) : Type 0 where
-  pub own : Own i
-  pub location : i .location < sizes.locations
-  pub offers : Offerable locations values (getD issued (i .processor) 0) (getD drained (i .processor) 0) i (getD phase (i .processor) 0)
 
 -- ---- at every step, where g has the programs
 

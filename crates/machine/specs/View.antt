@@ -3,25 +3,21 @@ use mathlib.Core.Bool.{cond}
 use mathlib.Core.List.{List}
 use Prim.Native.Nat.{ℕ, _-_}
 use lib.ListN.{getD, drop}
-use lib.Seq.{slice}
 use lib.Dec.{eqb}
 use Rattle.model.specs.declared.table.Program.{Program}
 use Rattle.model.specs.Sizes.{processors, registersEach}
 use Rattle.model.specs.Program.{ProgramStep}
 use Rattle.model.specs.Machine as model
 use Rattle.model.specs.Machine.{WaitingWrite, Processor, Holder, free, held}
-use Rattle.model.specs.Code.{placeAt, row, four, stepsFrom, countIn}
+use Rattle.model.specs.Code.{row, four, stepsFrom, countIn}
 use Rattle.rules.specs.Guards.{nobody}
-use Rattle.rules.specs.Offers.{writesIn}
+use Rattle.rules.specs.Offers.{writesIn, waitingFrom}
 use Rattle.machine.specs.declared.state.Machine.{Machine}
 
 -- the writes of processor p that wait, oldest first
 unfoldable pub waitingIn : Machine → ℕ → List WaitingWrite
 unfolding writesIn
-waitingIn m p =
-    let oldest = placeAt p (getD (m .drained) p 0) in
-    let end = placeAt p (getD (m .issued) p 0) in
-    writesIn (slice oldest end (m .locations)) (slice oldest end (m .values))
+waitingIn m p = waitingFrom (m .locations) (m .values) (getD (m .issued) p 0) (getD (m .drained) p 0) p
 
 -- what is left of its program at instruction a, of which f program steps are taken
 abbrev pub leftFrom : Program → ℕ → ℕ → ℕ → List ProgramStep

@@ -1,10 +1,6 @@
 // Finished: all programs at their end, all buffers empty.
 ghost use mathlib.Core.Path.{_≡_};
-ghost use Rattle.model.specs.Finish.{isFinished};
-ghost use Rattle.machine.specs.Arrays.{doneIn};
-ghost use Rattle.machine.specs.Ready.{Ready};
-ghost use Rattle.machine.specs.View.{machineOf};
-use crate::state::Machine;
+ghost use Rattle.machine.specs.Arrays.{doneIn, finishedIn};
 use model::table::Program;
 
 // A processor at instruction `at` of `count`, of whose `issued` writes `drained` are drained.
@@ -14,12 +10,16 @@ pub fn is_done(at: usize, count: usize, drained: usize, issued: usize) -> bool
     (at == count) & (drained == issued)
 }
 
-pub fn is_finished(program: Program, m: Machine) -> bool
-    requires { ⌜ Ready program m ⌝ }
-    ensures { λ r. ⌜ r ≡ isFinished (machineOf program m) ⌝ }
+pub fn is_finished(
+    counts: &[usize; Program::PROCESSORS],
+    at: &[usize; Program::PROCESSORS],
+    drained: &[usize; Program::PROCESSORS],
+    issued: &[usize; Program::PROCESSORS],
+) -> bool
+    ensures { λ r. ⌜ r ≡ finishedIn (now (at .entry)) (now (counts .entry)) (now (drained .entry)) (now (issued .entry)) ⌝ }
 {
-    is_done(m.at[0], program.counts[0], m.drained[0], m.issued[0])
-        & is_done(m.at[1], program.counts[1], m.drained[1], m.issued[1])
-        & is_done(m.at[2], program.counts[2], m.drained[2], m.issued[2])
-        & is_done(m.at[3], program.counts[3], m.drained[3], m.issued[3])
+    is_done(at[0], counts[0], drained[0], issued[0])
+        & is_done(at[1], counts[1], drained[1], issued[1])
+        & is_done(at[2], counts[2], drained[2], issued[2])
+        & is_done(at[3], counts[3], drained[3], issued[3])
 }

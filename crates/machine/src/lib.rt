@@ -1,7 +1,5 @@
-// The x86-TSO machine: its state in plain arrays, what a step changes, one step, and whether a run is finished.
-pub mod apply;
-pub mod effects;
+// The x86-TSO machine: its state in plain arrays, one step, and whether a run is finished.
 pub mod finished;
-pub mod offered;
+mod next;
 pub mod state;
 pub mod step;

@@ -1,9 +1,6 @@
 // The state. Processor p has its registers at Cells::REGISTERS * p and on, and its writes in the log at Program::INSTRUCTIONS * p and on, where those from drained[p] to issued[p] wait.
-ghost use mathlib.Core.Path.{_≡_};
-ghost use Rattle.machine.specs.Arrays.{startIn};
 use model::table::Cells;
 use model::table::Program;
-use rules::guards::NOBODY;
 
 pub struct Machine {
     pub registers: [u32; Cells::ALL_REGISTERS],
@@ -20,26 +17,4 @@ pub struct Machine {
     pub drained: [usize; Program::PROCESSORS],
     // Who holds the lock, or NOBODY.
     pub holder: usize,
-}
-
-impl Machine {
-    // Nothing taken, nothing waiting, the lock free.
-    pub fn start(cells: Cells) -> Machine
-        ensures { λ r. ⌜ r ≡ startIn cells ⌝ }
-    {
-        let registers = cells.registers;
-        let memory = cells.memory;
-        Machine {
-            registers: registers,
-            memory: memory,
-            kept: [0u32; Program::PROCESSORS],
-            at: [0usize; Program::PROCESSORS],
-            phase: [0usize; Program::PROCESSORS],
-            locations: [0u8; Program::PLACES],
-            values: [0u32; Program::PLACES],
-            issued: [0usize; Program::PROCESSORS],
-            drained: [0usize; Program::PROCESSORS],
-            holder: NOBODY,
-        }
-    }
 }

@@ -1,15 +1,16 @@
 // One step.
-ghost use Rattle.rules.specs.Programs.{columns};
+ghost use Rattle.model.specs.Code.{columns};
 ghost use Rattle.machine.specs.Arrays.{parts};
 ghost use Rattle.machine.specs.Ready.{Ready, WellFormed, Steps};
-use crate::apply;
-use crate::offered;
+use crate::next;
 use crate::state::Machine;
+use effects::store;
+use effects::take;
 use model::record::Record;
 use model::table::Cells;
 use model::table::Program;
-use rules::guards;
 use rules::program;
+use rules::program::DRAIN;
 
 // The step e on the arrays of a state, where kinds to counts are the columns of the program. Answers whether it is taken; if not, nothing changes.
 pub fn step_parts<'a>(
@@ -34,35 +35,53 @@ pub fn step_parts<'a>(
     ensures { λ taken. ⌜ Steps (columns (now (kinds .entry)) (now (operands .entry)) (now (targets .entry)) (now (constants .entry)) (now (counts .entry))) (parts (now (registers .entry)) (now (memory .entry)) (now (kept .entry)) (now (at .entry)) (now (phase .entry)) (now (locations .entry)) (now (values .entry)) (now (issued .entry)) (now (drained .entry)) (now (holder .entry))) e taken (parts (now (registers .exit)) (now (memory .exit)) (now (kept .exit)) (now (at .exit)) (now (phase .exit)) (now (locations .exit)) (now (values .exit)) (now (issued .exit)) (now (drained .exit)) (now (holder .exit))) ⌝ }
 {
     let p = e.processor as usize;
-    let i = program::fetch(kinds, operands, targets, constants, counts, p, at[p]);
-    let o = offered::offered_to(
+    if e.register != 0 {
+        return false;
+    }
+    if e.kind == DRAIN {
+        return take::drain(
+            memory,
+            drained,
+            locations,
+            values,
+            issued[p],
+            *holder,
+            p,
+            e.location,
+            e.value,
+        );
+    }
+    let a = at[p];
+    if counts[p] <= a {
+        return false;
+    }
+    let place = Program::INSTRUCTIONS * p + a;
+    let kind = kinds[place];
+    let r = operands[place];
+    let y = targets[place];
+    let constant = constants[place];
+    if e.kind != program::step_kind(kind, phase[p]) {
+        return false;
+    }
+    if next::take_next(
         registers,
         memory,
         kept,
-        phase,
         locations,
         values,
         issued,
         drained,
-        i,
+        holder,
+        kind,
+        p,
+        r,
+        y,
+        constant,
         e.kind,
-    );
-    let empty = drained[p] == issued[p];
-    if guards::same(e, o) & guards::permitted(o.kind, *holder, p, empty) {
-        apply::apply(
-            registers,
-            memory,
-            kept,
-            at,
-            phase,
-            locations,
-            values,
-            issued,
-            drained,
-            holder,
-            i,
-            o,
-        );
+        e.location,
+        e.value,
+    ) {
+        store::advance(at, phase, kind, p);
         return true;
     }
     false

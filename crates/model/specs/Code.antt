@@ -47,6 +47,10 @@ four f = f 0 ∷ f 1 ∷ f 2 ∷ f 3 ∷ []
 
 -- ---- programs
 
+-- a program of these columns
+abbrev pub columns : (kinds registers locations values counts : List ℕ) → Program
+columns kinds registers locations values counts = record { kinds = kinds; registers = registers; locations = locations; values = values; counts = counts }
+
 -- an entry that is no instruction has no program steps
 unfoldable pub stepsIn : Entry → List ProgramStep
 unfolding stepsOf
@@ -54,17 +58,13 @@ stepsIn (initialMemory x v) = []
 stepsIn (initialRegister p r v) = []
 stepsIn (instruction p i) = stepsOf i
 
+-- an instruction of processor p
+abbrev pub instructionOf : (kind p register location value : ℕ) → Record
+instructionOf kind p register location value = record { kind = kind; processor = p; register = register; location = location; value = value }
+
 -- instruction a of processor p, as its table record gave it
 unfoldable pub instructionAt : Program → ℕ → ℕ → Record
-instructionAt g p a =
-    let at = placeAt p a in
-    record {
-      kind = getD (g .kinds) at 0;
-      processor = p;
-      register = getD (g .registers) at 0;
-      location = getD (g .locations) at 0;
-      value = getD (g .values) at 0;
-    }
+instructionAt g p a = let at = placeAt p a in instructionOf (getD (g .kinds) at 0) p (getD (g .registers) at 0) (getD (g .locations) at 0) (getD (g .values) at 0)
 
 -- the program steps of n instructions of processor p, from instruction a on
 unfoldable pub stepsFrom : Program → ℕ → ℕ → ℕ → List ProgramStep
@@ -103,6 +103,9 @@ pub record Fits (g : Program) : Type 0 where
   pub counts : length (g .counts) ≡ processors
   pub few : (p : ℕ) → countIn g p ≤ instructionsEach
   pub each : (p a : ℕ) → p < processors → a < countIn g p → Fit (instructionAt g p a)
+
+abbrev pub cellsOf : (registers memory : List ℕ) → Cells
+cellsOf registers memory = record { registers = registers; memory = memory }
 
 pub record Sized (c : Cells) : Type 0 where
   pub registers : length (c .registers) ≡ processors * registersEach

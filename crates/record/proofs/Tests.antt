@@ -1,26 +1,16 @@
 -- The code's tests are the model's, where a record's row of Bools is that of its kind.
-use mathlib.Core.Path.{_≡_, refl, sym, ap, _∙_}
+use mathlib.Core.Path.{_≡_, sym, ap, _∙_}
 use mathlib.Core.Bool.{Bool, false}
-use mathlib.Core.List.{List, [], _∷_, map}
-use Prim.Native.Nat.{ℕ, zero, suc, _<_}
+use mathlib.Core.List.{List}
+use Prim.Native.Nat.{ℕ, _<_}
 use native.Mathlib.Omega.{arith}
-use lib.ListN.{length, getD}
+use lib.ListN.{length}
 use Rattle.model.specs.declared.record.Record.{Record}
 use Rattle.model.specs.Sizes.{processors, registersEach, locations}
 use Rattle.model.specs.Fields.{Field}
 use Rattle.model.specs.Tests.{unknown, tooLarge, notZero}
 use Rattle.model.proofs.Fields.{known-test}
-use Rattle.record.specs.Fields.{bools, rowOf, unknownBy, tooLargeBy, notZeroBy}
-
--- ---- a table of uses in Bools
-
-pub row-at : (uses : List (List Field)) (k : ℕ) → k < length uses → getD (map bools uses) k [] ≡ rowOf uses k
-unfolding rowOf
-row-at [] k h = absurd (omega arith)
-row-at (fields ∷ uses) zero h = refl
-row-at (fields ∷ uses) (suc k) h = row-at uses k (omega arith)
-
--- ---- the tests
+use Rattle.record.specs.Fields.{rowOf, unknownBy, tooLargeBy, notZeroBy}
 
 module _ (uses : List (List Field)) (rows : ℕ) (long : length uses ≡ rows) (r : Record) where
   pub unknown-is : unknownBy rows r ≡ unknown uses r

@@ -1,9 +1,13 @@
 -- The constant tables of src/program.rt: they are these lists, computed.
 use mathlib.Core.Path.{_≡_, refl, ap, _∙_}
+use mathlib.Core.Bool.{Bool, true, _&&_}
 use mathlib.Core.List.{List, [], _∷_}
 use Prim.Native.Nat.{ℕ, zero, suc, _<_}
 use native.Mathlib.Omega.{arith}
 use lib.ListN.{getD}
+use lib.Dec.{ltb, lit<}
+use borrow.Author.Tests.{ltb-true}
+use Rattle.model.proofs.Bools.{and-left, and-right}
 use Rattle.model.specs.Kinds.{tableRows}
 use Rattle.rules.specs.Steps.{phases, stepKind, stepCount}
 
@@ -22,3 +26,18 @@ kinds-are k f h l = ap (λ (row : List ℕ). getD row f 0) (at tableRows (λ k. 
 
 pub counts-are : (k : ℕ) → k < tableRows → getD (upTo tableRows stepCount) k 0 ≡ stepCount k
 counts-are k h = at tableRows stepCount 0 k h
+
+-- ---- and the counts are small
+
+abbrev allUnder : ℕ → List ℕ → Bool
+allUnder m [] = true
+allUnder m (x ∷ xs) = ltb x m && allUnder m xs
+
+under : (m : ℕ) → 0 < m → (xs : List ℕ) → allUnder m xs ≡ true → (k : ℕ) → getD xs k 0 < m
+under m z [] e k = z
+under m z (x ∷ xs) e zero = ltb-true x m (and-left (ltb x m) (allUnder m xs) e)
+under m z (x ∷ xs) e (suc k) = under m z xs (and-right (ltb x m) (allUnder m xs) e) k
+
+pub counts-few : (k : ℕ) → getD (upTo tableRows stepCount) k 0 < suc phases
+unfolding stepCount
+counts-few = under (suc phases) (lit< tt) (upTo tableRows stepCount) refl

@@ -4,7 +4,6 @@ use mathlib.Core.List.{[], _∷_}
 use Prim.Native.Nat.{ℕ, _+_, _%_}
 use lib.ListN.{getD}
 use lib.Dec.{eqb, leb}
-use Rattle.model.specs.declared.record.Record.{Record}
 use Rattle.model.specs.Sizes as sizes
 use Rattle.model.specs.Sizes.{processors}
 
@@ -30,5 +29,5 @@ permits kind holder p empty =
     kind
     true
 
-abbrev pub issuedBy : Record → ℕ → ℕ → ℕ
-issuedBy i kept register = cond (eqb (i .kind) 3) (i .value) (cond (leb 10 (i .kind)) ((kept + register) % sizes.values) register)
+abbrev pub issuedBy : ℕ → ℕ → ℕ → ℕ → ℕ
+issuedBy kind constant kept register = cond (eqb kind 3) constant (cond (leb 10 kind) ((kept + register) % sizes.values) register)

@@ -9,11 +9,10 @@ use lib.Dec.{eqb}
 use Rattle.model.specs.Code.{placeAt}
 use Rattle.model.specs.declared.record.Record.{Record}
 use Rattle.model.specs.Sizes.{processors, locations, instructionsEach}
-use Rattle.model.specs.Kinds.{tableRows}
 use Rattle.model.specs.Machine.{WaitingWrite, writeOf}
 use Rattle.model.specs.Rules.{Event, event}
 use Rattle.model.specs.Step.{newest}
-use Rattle.rules.specs.Steps.{phases, stepKind}
+use Rattle.rules.specs.Steps.{stepKind}
 use Rattle.rules.specs.Guards.{issuedBy}
 
 -- ---- the log of issued writes
@@ -24,6 +23,10 @@ writesIn [] vs = []
 writesIn (x ∷ xs) [] = []
 writesIn (x ∷ xs) (v ∷ vs) = writeOf x v ∷ writesIn xs vs
 
+-- those of processor p that wait, oldest first
+abbrev pub waitingFrom : List ℕ → List ℕ → ℕ → ℕ → ℕ → List WaitingWrite
+waitingFrom xs vs issued drained p = writesIn (slice (placeAt p drained) (placeAt p issued) xs) (slice (placeAt p drained) (placeAt p issued) vs)
+
 -- the log of processor p
 pub record Log (xs vs : List ℕ) (issued drained p : ℕ) : Type 0 where
   pub processor : p < processors
@@ -31,12 +34,6 @@ pub record Log (xs vs : List ℕ) (issued drained p : ℕ) : Type 0 where
   pub few : issued ≤ instructionsEach
   pub locations : length xs ≡ processors * instructionsEach
   pub values : length vs ≡ processors * instructionsEach
-
--- what is asked of a processor's numbers
-pub record Offerable (xs vs : List ℕ) (issued drained : ℕ) (i : Record) (phase : ℕ) : Type 0 where
-  pub log : Log xs vs issued drained (i .processor)
-  pub kind : i .kind < tableRows
-  pub low : phase < phases
 
 -- ---- the steps
 
@@ -49,8 +46,8 @@ module _ (locations values : List ℕ) (issued drained : ℕ) where
     nextIn next =
         let p = i .processor in
         let x = i .location in
-        let waiting = writesIn (slice (placeAt p drained) (placeAt p issued) locations) (slice (placeAt p drained) (placeAt p issued) values) in
-        cond (eqb next 1) (event 1 p x (newest waiting x memory)) (cond (eqb next 2) (event 2 p x (issuedBy i kept register)) (event next p 0 0))
+        cond (eqb next 1) (event 1 p x (newest (waitingFrom locations values issued drained p) x memory))
+        (cond (eqb next 2) (event 2 p x (issuedBy (i .kind) (i .value) kept register)) (event next p 0 0))
 
     unfoldable pub offeredIn : ℕ → ℕ → Event
     unfolding oldestIn nextIn

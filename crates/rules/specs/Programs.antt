@@ -1,7 +1,6 @@
 -- The instruction that a processor stands at.
 use mathlib.Core.Path.{_≡_}
 use mathlib.Core.Bool.{cond}
-use mathlib.Core.List.{List}
 use Prim.Native.Nat.{ℕ, _<_}
 use lib.Dec.{ltb}
 use Rattle.model.specs.declared.record.Record.{Record}
@@ -10,9 +9,6 @@ use Rattle.model.specs.Sizes.{registersEach, locations}
 use Rattle.model.specs.Kinds.{tableRows}
 use Rattle.model.specs.Code.{instructionAt, countIn}
 use Rattle.model.specs.Rules.{event}
-
-abbrev pub columns : (kinds registers locations values counts : List ℕ) → Program
-columns kinds registers locations values counts = record { kinds = kinds; registers = registers; locations = locations; values = values; counts = counts }
 
 -- instruction a of processor p; past the last one its kind is 0
 unfoldable pub fetched : Program → ℕ → ℕ → Record

@@ -1,6 +1,5 @@
 // What the rules ask of the lock and of the own buffer, and what a write issues.
 ghost use mathlib.Core.Path.{_≡_};
-ghost use Rattle.model.specs.Step.{same as sameAs};
 ghost use Rattle.rules.specs.Guards.{notBlockedIn, permits, issuedBy};
 use crate::program::DRAIN;
 use crate::program::EXCHANGE_ADD;
@@ -9,7 +8,6 @@ use crate::program::LOCK;
 use crate::program::READ;
 use crate::program::STORE_CONSTANT;
 use crate::program::UNLOCK;
-use model::record::Record;
 use model::table::Program;
 
 // The holder of a free lock.
@@ -36,25 +34,15 @@ pub fn permitted(kind: u8, holder: usize, p: usize, empty: bool) -> bool
     }
 }
 
-// What the write of instruction i issues, with `register` in its register and `kept` aside.
-pub fn issued_by(i: Record, kept: u32, register: u32) -> u32
-    ensures { λ r. ⌜ r ≡ issuedBy i kept register ⌝ }
+// What the write of an instruction of this kind issues, with `register` in its register and `kept` aside.
+pub fn issued_by(kind: u8, constant: u32, kept: u32, register: u32) -> u32
+    ensures { λ r. ⌜ r ≡ issuedBy kind constant kept register ⌝ }
 {
-    if i.kind == STORE_CONSTANT {
-        return i.value;
+    if kind == STORE_CONSTANT {
+        return constant;
     }
-    if EXCHANGE_ADD <= i.kind {
+    if EXCHANGE_ADD <= kind {
         return std::num::wrapping_add_u32(kept, register);
     }
     register
-}
-
-pub fn same(e: Record, f: Record) -> bool
-    ensures { λ r. ⌜ r ≡ sameAs e f ⌝ }
-{
-    (e.kind == f.kind)
-        & (e.processor == f.processor)
-        & (e.register == f.register)
-        & (e.location == f.location)
-        & (e.value == f.value)
 }

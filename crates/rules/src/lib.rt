@@ -1,5 +1,4 @@
-// When a step is allowed (document 01): the program steps of each kind, the lookup, what lock and buffer permit, and the step that a processor can come to.
+// When a step is allowed (document 01): the program steps of each kind, the lookup, and what lock and buffer permit.
 pub mod guards;
-pub mod offer;
 pub mod program;
 pub mod waiting;

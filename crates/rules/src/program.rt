@@ -1,12 +1,8 @@
-// Programs: the instruction that a processor stands at, and the program steps of each kind.
+// The program steps of each kind of instruction.
 ghost use mathlib.Core.Path.{_≡_};
 ghost use Prim.Native.Nat.{_<_};
-ghost use Rattle.model.specs.Code.{Fits};
 ghost use Rattle.model.specs.Kinds.{tableRows};
 ghost use Rattle.rules.specs.Steps.{phases, stepKind, stepCount};
-ghost use Rattle.rules.specs.Programs.{columns, Fetched};
-use model::record::Record;
-use model::table::Program;
 
 // The kinds of steps.
 pub const READ: u8 = 1;
@@ -58,7 +54,7 @@ const STEPS: [[u8; PHASES]; ROWS] = [
 ];
 
 // And how many they are.
-const COUNTS: [usize; ROWS] = [0, 0, 0, 1, 1, 1, 1, 1, 2, 4, 2, 4];
+const COUNTS: [u8; ROWS] = [0, 0, 0, 1, 1, 1, 1, 1, 2, 4, 2, 4];
 
 pub fn step_kind(kind: u8, phase: usize) -> u8
     requires { ⌜ (kind < tableRows) × (phase < phases) ⌝ }
@@ -73,37 +69,5 @@ pub fn step_count(kind: u8) -> usize
     ensures { λ r. ⌜ r ≡ stepCount kind ⌝ }
 {
     let k = kind as usize;
-    COUNTS[k]
-}
-
-// The table record of the instruction that processor p stands at. Past the last one its kind is NONE.
-pub fn fetch(
-    kinds: &[u8; Program::PLACES],
-    registers: &[u8; Program::PLACES],
-    locations: &[u8; Program::PLACES],
-    values: &[u32; Program::PLACES],
-    counts: &[usize; Program::PROCESSORS],
-    p: usize,
-    at: usize,
-) -> Record
-    requires { do ⌜ (p < (← ⟦Program::PROCESSORS⟧)) × Fits (columns (now kinds) (now registers) (now locations) (now values) (now counts)) ⌝ }
-    ensures { λ r. ⌜ Fetched (columns (now (kinds .entry)) (now (registers .entry)) (now (locations .entry)) (now (values .entry)) (now (counts .entry))) p at r ⌝ }
-{
-    if at < counts[p] {
-        let k = Program::INSTRUCTIONS * p + at;
-        return Record {
-            kind: kinds[k],
-            processor: p as u8,
-            register: registers[k],
-            location: locations[k],
-            value: values[k],
-        };
-    }
-    Record {
-        kind: NONE,
-        processor: p as u8,
-        register: 0,
-        location: 0,
-        value: 0,
-    }
+    COUNTS[k] as usize
 }

@@ -17,14 +17,12 @@ use Rattle.model.specs.Machine.{Machine}
 use Rattle.model.specs.Kinds.{Entry, initialMemory, initialRegister, instruction, tableKinds, tableUses, entryOf}
 use Rattle.model.specs.Table.{instructionsOf, empty, enter, enterAll, start}
 use Rattle.model.specs.Tests.{first, unknown, tooLarge, notZero}
-use Rattle.model.specs.Reading.{any, isInstruction, givesMemory, givesRegister, late, again, crowded, tableTests}
+use Rattle.model.specs.Reading.{any, isInstruction, givesMemory, givesRegister, late, again, crowded, ownTests, tableTests}
 use Rattle.model.specs.Code.{countIn, stepsFrom, processorAtStart, startOf, Fits, Sized}
 use Rattle.model.proofs.Bools.{one}
 use Rattle.model.proofs.Readable.{isOf}
 use Rattle.model.proofs.Rows.{alike}
-use Rattle.table.specs.declared.given.Given.{Given}
-use Rattle.model.specs.Reading.{ownTests}
-use Rattle.table.specs.Given.{Formed, nothingGiven, crowdedIn, placeTests, memoryNoted, registerNoted, instructionNoted, notedIn}
+use Rattle.table.specs.Given.{Given, Formed, nothingGiven, crowdedIn, placeTests, memoryNoted, registerNoted, instructionNoted, notedIn}
 use Rattle.table.specs.Enter.{noProgram, noCells, withMemory, withRegister, withInstruction, programWith, cellsWith}
 use Rattle.table.proofs.Forms.{formed, room, rec, entry-instruction}
 use Rattle.table.proofs.Entering.{memory-entered, register-entered, instruction-entered}
@@ -144,7 +142,7 @@ module _ (g : Program) (c : Cells) (s : Given) (es : List Entry) (h : Holds g c 
       }
 
   on-instruction : (r : Record) → Formed r → 2 < r .kind → countIn g (r .processor) < instructionsEach → (i : Instruction) → entryOf r ≡ instruction (r .processor) i
-      → Holds (withInstruction g r) c (instructionNoted s r) (es ++ (instruction (r .processor) i ∷ []))
+      → Holds (withInstruction g r) c (instructionNoted s) (es ++ (instruction (r .processor) i ∷ []))
   on-instruction r f k room i q =
       let e = instruction (r .processor) i in
       record {

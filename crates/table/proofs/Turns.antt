@@ -14,21 +14,18 @@ use Rattle.model.specs.declared.answer.Verdict.{Verdict}
 use Rattle.model.specs.declared.answer.Verdict.the-variants.{Passed, Refused}
 use Rattle.model.specs.declared.table.Program.{Program}
 use Rattle.model.specs.declared.table.Cells.{Cells}
-use Rattle.model.specs.Sizes.{recordSize, instructionsEach}
+use Rattle.model.specs.Sizes.{instructionsEach, recordSize}
 use Rattle.model.specs.Record.{recordAt, recordsFrom, records}
 use Rattle.model.specs.Kinds.{Entry, entryOf}
 use Rattle.model.specs.Reply.{numberOf}
 use Rattle.model.specs.Tests.{Tested, passed, refused, unless, inOrder}
-use Rattle.model.specs.Reading.{readRecord, reading}
-use Rattle.model.specs.Code.{testedOf, Gives}
+use Rattle.model.specs.Reading.{readRecord, reading, ownTests}
+use Rattle.model.specs.Code.{testedOf, Fits, Sized}
 use Rattle.model.proofs.Tests.{then-passed, then-refused}
 use Rattle.model.proofs.InOrder.{in-order-more, in-order-stop, file-whole, file-not-whole}
-use Rattle.table.specs.declared.given.Given.{Given}
-use Rattle.table.specs.declared.read.Read.{Read}
-use Rattle.model.specs.Reading.{ownTests}
-use Rattle.table.specs.Given.{Formed, crowdedIn, placeTests, notedIn}
-use Rattle.table.specs.Enter.{programWith, cellsWith}
-use Rattle.table.specs.Reads.{Reads, refusedRead}
+use Rattle.table.specs.Given.{Given, Formed, crowdedIn, placeTests, notedIn}
+use Rattle.table.specs.Enter.{noProgram, noCells, programWith, cellsWith, ifPassed, Enters}
+use Rattle.table.specs.Reads.{Reads}
 use Rattle.model.proofs.Verdicts.{gives-none, gives-any}
 use Rattle.table.proofs.Forms.{formed}
 use Rattle.table.proofs.Holding.{Holds, fits-none, sized-none, tests-agree, next-holds}
@@ -44,20 +41,23 @@ onward table n i = inOrder readRecord i (entries table i) (recordsFrom table i (
 
 -- ---- the ends
 
-refuses : (table : List ℕ) (why : Refusal) (place : ℕ) (r : Read) → r ≡ refusedRead why place → reading table ≡ refused (numberOf why) place → Reads table r
-refuses table why place r e h = subst⁻¹ (Reads table) e (record { says = sym (then-refused (reading table) _ (numberOf why) place h); fits = fits-none; sized = sized-none })
+refuses : (table : List ℕ) (g : Program) (c : Cells) (why : Refusal) (place : ℕ) → Fits g → Sized c → reading table ≡ refused (numberOf why) place
+    → Reads table (Refused why place) g c
+refuses table g c why place f z h = record { says = sym (then-refused (reading table) _ (numberOf why) place h); fits = f; sized = z }
 
 -- no multiple of 8
-pub odd : (table : List ℕ) (r : Read) → r ≡ refusedRead TableLength (length table / recordSize) → ¬ (length table % recordSize ≡ 0) → Reads table r
+pub odd : (table : List ℕ) (g : Program) (c : Cells) → (g ≡ noProgram) × (c ≡ noCells) → ¬ (length table % recordSize ≡ 0)
+    → Reads table (Refused TableLength (length table / recordSize)) g c
 unfolding reading
-odd table r e h = refuses table TableLength (length table / recordSize) r e (file-not-whole 1 readRecord [] table h)
+odd table g c z h =
+    refuses table g c TableLength (length table / recordSize) (subst⁻¹ Fits (z .0) fits-none) (subst⁻¹ Sized (z .1) sized-none) (file-not-whole 1 readRecord [] table h)
 
 pub begins : (table : List ℕ) → length table % recordSize ≡ 0 → onward table (length table / recordSize) 0 ≡ reading table
 unfolding reading entries records
 begins table h = rw sub-zero (sym (file-whole 1 readRecord [] table h))
 
 pub ends : (table : List ℕ) (g : Program) (c : Cells) (s : Given) (n i : ℕ) → n ≤ i → Holds g c s (entries table i) → onward table n i ≡ reading table
-    → Reads table (record { verdict = Passed; program = g; cells = c })
+    → Reads table Passed g c
 unfolding inOrder recordsFrom
 ends table g c s n i l k e =
     let z : n - i ≡ 0 = omega arith in
@@ -66,45 +66,48 @@ ends table g c s n i l k e =
 
 -- ---- a turn
 
--- record i is read and tested
-pub record Turn (table : List ℕ) (g : Program) (c : Cells) (s : Given) (n i : ℕ) (r : Record) (v : Verdict) : Type 0 where
-  pub inside : i < n
-  pub holds : Holds g c s (entries table i)
-  pub rest : onward table n i ≡ reading table
-  pub read : r ≡ recordAt table i
-  pub gives : Gives v (ownTests r ++ placeTests s g r) i
+-- what a verdict leaves, once it is known
+leaves : {A : Type 0} (new old : A) {x : A} {v u : Verdict} → v ≡ u → x ≡ ifPassed v new old → x ≡ ifPassed u new old
+leaves new old e h = h ∙ ap (λ (w : Verdict). ifPassed w new old) e
 
-module _ {table : List ℕ} {g : Program} {c : Cells} {s : Given} {n i : ℕ} {r : Record} {v : Verdict} (t : Turn table g c s n i r v) where
+-- record i is read, tested and entered
+module _ (table : List ℕ) {g : Program} {c : Cells} {s : Given} {n i : ℕ} {r : Record} {v : Verdict} {h : Program} {d : Cells} {w : Given} (inside : i < n)
+    (holds : Holds g c s (entries table i)) (rest : onward table n i ≡ reading table) (read : r ≡ recordAt table i) (entered : Enters g c s i r v h d w) where
   -- the entries so far, with that of r
   abbrev with-r : List Entry
   with-r = entries table i ++ (entryOf r ∷ [])
 
   more : recordsFrom table i (n - i) ≡ r ∷ recordsFrom table (suc i) (n - suc i)
   unfolding recordsFrom
-  more = let l = t .inside in let z : n - i ≡ suc (n - suc i) = omega arith in rw (z, t .read)
+  more = let z : n - i ≡ suc (n - suc i) = omega arith in rw (z, read)
 
   judged : readRecord i (entries table i) r ≡ testedOf v with-r
   unfolding readRecord
-  judged = sym (gives-any v (ownTests r ++ placeTests s g r) i with-r (t .gives) ∙ ap (λ o. unless o i (passed with-r)) (tests-agree g c s (entries table i) (t .holds) r))
+  judged = sym (gives-any v (ownTests r ++ placeTests s g r) i with-r (entered .gives) ∙ ap (λ o. unless o i (passed with-r)) (tests-agree g c s (entries table i) holds r))
 
-  pub stops : (why : Refusal) (place : ℕ) → v ≡ Refused why place → (x : Read) → x ≡ refusedRead why place → Reads table x
-  stops why place h x u =
-      let j : readRecord i (entries table i) r ≡ refused (numberOf why) place = judged ∙ ap (λ (w : Verdict). testedOf w with-r) h in
-      refuses table why place x u
-      (sym (t .rest) ∙ ap (inOrder readRecord i (entries table i)) more ∙ in-order-stop readRecord i (entries table i) r (recordsFrom table (suc i) (n - suc i)) (numberOf why) place j)
+  -- what there was before stays
+  pub stops : (why : Refusal) (place : ℕ) → v ≡ Refused why place → Reads table (Refused why place) h d
+  stops why place e =
+      let j : readRecord i (entries table i) r ≡ refused (numberOf why) place = judged ∙ ap (λ (u : Verdict). testedOf u with-r) e in
+      refuses table h d why place
+      (subst⁻¹ Fits (leaves (programWith g r) g e (entered .program)) (holds .fits)) (subst⁻¹ Sized (leaves (cellsWith c r) c e (entered .cells)) (holds .sized))
+      (sym rest ∙ ap (inOrder readRecord i (entries table i)) more ∙ in-order-stop readRecord i (entries table i) r (recordsFrom table (suc i) (n - suc i)) (numberOf why) place j)
 
-  pub clear : v ≡ Passed → Formed r × (crowdedIn instructionsEach g r ≡ false)
-  clear h = let a = gives-none v (ownTests r ++ placeTests s g r) i (t .gives) h in (formed r (a .0) (a .1 .0) (a .1 .1 .0), a .1 .1 .1 .1 .1 .0)
+  clear : v ≡ Passed → Formed r × (crowdedIn instructionsEach g r ≡ false)
+  clear e = let a = gives-none v (ownTests r ++ placeTests s g r) i (entered .gives) e in (formed r (a .0) (a .1 .0) (a .1 .1 .0), a .1 .1 .1 .1 .1 .0)
 
   grown : with-r ≡ entries table (i + 1)
   unfolding entries
-  grown = rw (add-one, t .read)
+  grown = rw (add-one, read)
 
-  pub holds-on : v ≡ Passed → (h : Program) → h ≡ programWith g r → (d : Cells) → d ≡ cellsWith c r → (w : Given) → w ≡ notedIn s r → Holds h d w (entries table (i + 1))
-  holds-on p h a d b w o = let f = clear p in rw (a, b, o, ← grown) (next-holds g c s (entries table i) (t .holds) r (f .0) (f .1))
+  pub holds-on : v ≡ Passed → Holds h d w (entries table (i + 1))
+  holds-on e =
+      let f = clear e in
+      rw (leaves (programWith g r) g e (entered .program), leaves (cellsWith c r) c e (entered .cells), leaves (notedIn s r) s e (entered .given), ← grown)
+      (next-holds g c s (entries table i) holds r (f .0) (f .1))
 
   pub goes-on : v ≡ Passed → onward table n (i + 1) ≡ reading table
-  goes-on h =
-      let j : readRecord i (entries table i) r ≡ passed with-r = judged ∙ ap (λ (w : Verdict). testedOf w with-r) h in
+  goes-on e =
+      let j : readRecord i (entries table i) r ≡ passed with-r = judged ∙ ap (λ (u : Verdict). testedOf u with-r) e in
       rw (← grown, add-one)
-      (sym (in-order-more readRecord i (entries table i) with-r r (recordsFrom table (suc i) (n - suc i)) j) ∙ ap (inOrder readRecord i (entries table i)) (sym more) ∙ t .rest)
+      (sym (in-order-more readRecord i (entries table i) with-r r (recordsFrom table (suc i) (n - suc i)) j) ∙ ap (inOrder readRecord i (entries table i)) (sym more) ∙ rest)

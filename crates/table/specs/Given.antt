@@ -1,7 +1,7 @@
--- The tests of a record that depend on those before it, as the code makes them: on the cells given so far, and the counts.
+-- What the records so far have given, and the tests of a record that depend on it, as the code makes them: on flags, and on counts.
 use mathlib.Core.Bool.{Bool, true, false, cond, _&&_, _||_}
-use mathlib.Core.List.{List, [], _∷_}
-use Prim.Native.Nat.{ℕ, _+_, _*_, _<_}
+use mathlib.Core.List.{List, [], _∷_, _++_}
+use Prim.Native.Nat.{ℕ, _*_, _<_}
 use lib.ListN.{getD, set, replicate}
 use lib.Dec.{eqb, leb, ltb}
 use Rattle.model.specs.declared.record.Record.{Record}
@@ -10,7 +10,18 @@ use Rattle.model.specs.Sizes.{processors, registersEach, locations, instruction
 use Rattle.model.specs.Kinds.{tableRows}
 use Rattle.model.specs.Code.{registerOf, countIn}
 use Rattle.model.specs.Tests.{Test, test}
-use Rattle.table.specs.declared.given.Given.{Given}
+
+-- the cells that initial records have given, and whether there was an instruction
+pub record Given : Type 0 where
+  pub registers : List Bool
+  pub memory : List Bool
+  pub instruction : Bool
+
+abbrev pub flags : (registers memory : List Bool) → Bool → Given
+flags registers memory begun = record { registers = registers; memory = memory; instruction = begun }
+
+abbrev pub nothingGiven : Given
+nothingGiven = flags (replicate (processors * registersEach) false) (replicate locations false) false
 
 -- what tests 2, 3, 4 leave: the kind is known, and every field is in range, used or not
 pub record Formed (r : Record) : Type 0 where
@@ -20,42 +31,37 @@ pub record Formed (r : Record) : Type 0 where
   pub register : r .register < registersEach
   pub location : r .location < locations
 
-abbrev pub nothingGiven : Given
-nothingGiven = record { registers = replicate (processors * registersEach) false; memory = replicate locations false; instruction = false }
-
 -- ---- the tests
 
 abbrev pub lateIn : Given → Record → Bool
 lateIn given r = leb (r .kind) 2 && given .instruction
 
--- each processor has so many registers
-abbrev pub againIn : ℕ → Given → Record → Bool
-againIn registers given r =
-    (eqb (r .kind) 1 && getD (given .memory) (r .location) false)
-    || (eqb (r .kind) 2 && getD (given .registers) (registers * r .processor + r .register) false)
+abbrev pub againIn : (registers memory : List Bool) → Record → Bool
+againIn registers memory r = (eqb (r .kind) 1 && getD memory (r .location) false) || (eqb (r .kind) 2 && getD registers (registerOf r) false)
 
--- and at most so many instructions
 abbrev pub crowdedIn : ℕ → Program → Record → Bool
 crowdedIn instructions program r = ltb 2 (r .kind) && leb instructions (countIn program (r .processor))
 
+-- of an initial record, and of an instruction
+abbrev pub initialTests : Given → Record → List Test
+initialTests given r = test 5 (lateIn given r) ∷ test 6 (againIn (given .registers) (given .memory) r) ∷ []
+
+abbrev pub instructionTests : ℕ → Program → Record → List Test
+instructionTests instructions program r = test 7 (crowdedIn instructions program r) ∷ []
+
 abbrev pub placeTests : Given → Program → Record → List Test
-placeTests given program r =
-    test 5 (lateIn given r) ∷ test 6 (againIn registersEach given r) ∷ test 7 (crowdedIn instructionsEach program r) ∷ []
+placeTests given program r = initialTests given r ++ instructionTests instructionsEach program r
 
 -- ---- what is given with r
 
 abbrev pub memoryNoted : Given → Record → Given
-memoryNoted given r = record { registers = given .registers; memory = set (given .memory) (r .location) true; instruction = given .instruction }
+memoryNoted given r = flags (given .registers) (set (given .memory) (r .location) true) (given .instruction)
 
 abbrev pub registerNoted : Given → Record → Given
-registerNoted given r = record {
-  registers = set (given .registers) (registerOf r) true;
-  memory = given .memory;
-  instruction = given .instruction;
-}
+registerNoted given r = flags (set (given .registers) (registerOf r) true) (given .memory) (given .instruction)
 
-abbrev pub instructionNoted : Given → Record → Given
-instructionNoted given r = record { registers = given .registers; memory = given .memory; instruction = true }
+abbrev pub instructionNoted : Given → Given
+instructionNoted given = flags (given .registers) (given .memory) true
 
 unfoldable pub notedIn : Given → Record → Given
-notedIn given r = cond (eqb (r .kind) 1) (memoryNoted given r) (cond (eqb (r .kind) 2) (registerNoted given r) (instructionNoted given r))
+notedIn given r = cond (eqb (r .kind) 1) (memoryNoted given r) (cond (eqb (r .kind) 2) (registerNoted given r) (instructionNoted given))

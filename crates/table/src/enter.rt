@@ -1,93 +1,70 @@
-// A record that passed its tests, entered into the program or the cells.
-ghost use mathlib.Core.Path.{_≡_};
-ghost use mathlib.Core.Bool.{false};
+// A record, tested and entered into the arrays. begun says whether there was an instruction before it.
 ghost use Prim.Native.Nat.{_<_};
-ghost use Rattle.model.specs.Code.{countIn};
-ghost use Rattle.table.specs.Given.{Formed, crowdedIn};
-ghost use Rattle.table.specs.Enter.{noProgram, noCells, withMemory, withRegister, withInstruction, programWith, cellsWith};
-use crate::kinds::INITIAL_MEMORY;
+ghost use Rattle.model.specs.Code.{cellsOf, columns};
+ghost use Rattle.table.specs.Given.{Formed, flags};
+ghost use Rattle.table.specs.Enter.{EntersInstruction, Enters};
+use crate::initial;
+use crate::kinds;
 use crate::kinds::INITIAL_REGISTER;
+use model::answer::Refusal;
+use model::answer::Verdict;
 use model::record::Record;
 use model::table::Cells;
 use model::table::Program;
 
-pub fn no_program() -> Program
-    ensures { λ x. ⌜ x ≡ noProgram ⌝ }
-{
-    Program {
-        kinds: [0u8; Program::PLACES],
-        registers: [0u8; Program::PLACES],
-        locations: [0u8; Program::PLACES],
-        values: [0u32; Program::PLACES],
-        counts: [0usize; Program::PROCESSORS],
-    }
-}
-
-pub fn no_cells() -> Cells
-    ensures { λ x. ⌜ x ≡ noCells ⌝ }
-{
-    Cells {
-        registers: [0u32; Cells::ALL_REGISTERS],
-        memory: [0u32; Cells::LOCATIONS],
-    }
-}
-
-fn with_memory(mut cells: Cells, r: Record) -> Cells
-    requires { ⌜ Formed r ⌝ }
-    ensures { λ x. ⌜ x ≡ withMemory cells r ⌝ }
-{
-    let x = r.location as usize;
-    cells.memory[x] = r.value;
-    cells
-}
-
-fn with_register(mut cells: Cells, r: Record) -> Cells
-    requires { ⌜ Formed r ⌝ }
-    ensures { λ x. ⌜ x ≡ withRegister cells r ⌝ }
+// Record i, if it is an instruction: test 7, and then it is the last of its processor so far.
+fn enter_instruction<'a>(
+    kinds: &'a mut [u8; Program::PLACES],
+    operands: &'a mut [u8; Program::PLACES],
+    targets: &'a mut [u8; Program::PLACES],
+    constants: &'a mut [u32; Program::PLACES],
+    counts: &'a mut [usize; Program::PROCESSORS],
+    begun: &'a mut bool,
+    i: usize,
+    r: Record,
+) -> Verdict
+    requires { do ⌜ Formed r × ((← ⟦INITIAL_REGISTER⟧) < r .kind) ⌝ }
+    ensures { λ v. do ⌜ EntersInstruction (← ⟦Program::INSTRUCTIONS⟧ .entry) (columns (now (kinds .entry)) (now (operands .entry)) (now (targets .entry)) (now (constants .entry)) (now (counts .entry))) (now (begun .entry)) i r v (columns (now (kinds .exit)) (now (operands .exit)) (now (targets .exit)) (now (constants .exit)) (now (counts .exit))) (now (begun .exit)) ⌝ }
 {
     let p = r.processor as usize;
-    let q = r.register as usize;
-    let c = Cells::REGISTERS * p + q;
-    cells.registers[c] = r.value;
-    cells
-}
-
-fn with_instruction(mut program: Program, r: Record) -> Program
-    requires { do ⌜ Formed r × (countIn program (r .processor) < (← ⟦Program::INSTRUCTIONS⟧)) ⌝ }
-    ensures { λ x. ⌜ x ≡ withInstruction program r ⌝ }
-{
-    let p = r.processor as usize;
-    let n = program.counts[p];
+    let n = counts[p];
+    if Program::INSTRUCTIONS <= n {
+        return Verdict::Refused(Refusal::Seventeenth, i);
+    }
     let at = Program::INSTRUCTIONS * p + n;
-    program.kinds[at] = r.kind;
-    program.registers[at] = r.register;
-    program.locations[at] = r.location;
-    program.values[at] = r.value;
-    program.counts[p] = n + 1;
-    program
+    kinds[at] = r.kind;
+    operands[at] = r.register;
+    targets[at] = r.location;
+    constants[at] = r.value;
+    counts[p] = n + 1;
+    *begun = true;
+    Verdict::Passed
 }
 
-// An instruction is the last of its processor so far.
-pub fn entered_program(program: Program, r: Record) -> Program
-    requires { do ⌜ Formed r × (crowdedIn (← ⟦Program::INSTRUCTIONS⟧) program r ≡ false) ⌝ }
-    ensures { λ x. ⌜ x ≡ programWith program r ⌝ }
+// Record i: tests 2 to 7 in turn, and then it is entered. If it is refused, nothing changes.
+pub fn enter_record<'a>(
+    kinds: &'a mut [u8; Program::PLACES],
+    operands: &'a mut [u8; Program::PLACES],
+    targets: &'a mut [u8; Program::PLACES],
+    constants: &'a mut [u32; Program::PLACES],
+    counts: &'a mut [usize; Program::PROCESSORS],
+    registers: &'a mut [u32; Cells::ALL_REGISTERS],
+    memory: &'a mut [u32; Cells::LOCATIONS],
+    assigned: &'a mut [bool; Cells::ALL_REGISTERS],
+    filled: &'a mut [bool; Cells::LOCATIONS],
+    begun: &'a mut bool,
+    i: usize,
+    r: Record,
+) -> Verdict
+    ensures { λ v. ⌜ Enters (columns (now (kinds .entry)) (now (operands .entry)) (now (targets .entry)) (now (constants .entry)) (now (counts .entry))) (cellsOf (now (registers .entry)) (now (memory .entry))) (flags (now (assigned .entry)) (now (filled .entry)) (now (begun .entry))) i r v (columns (now (kinds .exit)) (now (operands .exit)) (now (targets .exit)) (now (constants .exit)) (now (counts .exit))) (cellsOf (now (registers .exit)) (now (memory .exit))) (flags (now (assigned .exit)) (now (filled .exit)) (now (begun .exit))) ⌝ }
 {
-    if r.kind <= INITIAL_REGISTER {
-        return program;
+    match kinds::malformed(i, r) {
+        Verdict::Refused(why, place) => Verdict::Refused(why, place),
+        Verdict::Passed => {
+            if r.kind <= INITIAL_REGISTER {
+                return initial::enter_initial(registers, memory, assigned, filled, *begun, i, r);
+            }
+            enter_instruction(kinds, operands, targets, constants, counts, begun, i, r)
+        }
     }
-    with_instruction(program, r)
-}
-
-// An initial record sets its cell.
-pub fn entered_cells(cells: Cells, r: Record) -> Cells
-    requires { ⌜ Formed r ⌝ }
-    ensures { λ x. ⌜ x ≡ cellsWith cells r ⌝ }
-{
-    if r.kind == INITIAL_MEMORY {
-        return with_memory(cells, r);
-    }
-    if r.kind == INITIAL_REGISTER {
-        return with_register(cells, r);
-    }
-    cells
 }

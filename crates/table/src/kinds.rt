@@ -18,27 +18,18 @@ pub const INITIAL_REGISTER: u8 = 2;
 const ROWS: usize = 12;
 
 // Does a kind use processor, register, location, value?
-const USES: [[bool; 4]; ROWS] = [
-    [false, false, false, false], // 0 no kind
-    [false, false, true, true], // 1 initial memory
-    [true, true, false, true], // 2 initial register
-    [true, false, true, true], // 3 store constant
-    [true, true, true, false], // 4 store register
-    [true, true, true, false], // 5 load
-    [true, true, false, true], // 6 set register
-    [true, false, false, false], // 7 fence
-    [true, true, true, false], // 8 exchange
-    [true, true, true, false], // 9 locked exchange
-    [true, true, true, false], // 10 exchange-and-add
-    [true, true, true, false], // 11 locked exchange-and-add
-];
-
 fn used_by(kind: u8) -> [bool; 4]
     requires { do ⌜ kind < (← ⟦ROWS⟧) ⌝ }
     ensures { λ u. ⌜ u ≡ rowOf tableUses kind ⌝ }
 {
-    let k = kind as usize;
-    USES[k]
+    match kind {
+        0 => [false, false, false, false], // no kind
+        1 => [false, false, true, true], // initial memory
+        2 | 6 => [true, true, false, true], // initial register, set register
+        3 => [true, false, true, true], // store constant
+        7 => [true, false, false, false], // fence
+        _ => [true, true, true, false], // store register, load, the four exchanges
+    }
 }
 
 // Tests 2, 3, 4 of record i.

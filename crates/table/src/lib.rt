@@ -1,5 +1,5 @@
 // Reading a table (document 01, numbers 1 to 7).
-pub mod enter;
-pub mod given;
-pub mod kinds;
+mod enter;
+mod initial;
+mod kinds;
 pub mod read;

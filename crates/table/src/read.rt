@@ -1,14 +1,9 @@
 // The whole table.
 ghost use mathlib.Core.Path.{_≡_};
-ghost use mathlib.Core.List.{_++_};
-ghost use Rattle.table.specs.Given.{placeTests};
-ghost use Rattle.table.specs.Reads.{Reads, refusedRead};
-ghost use Rattle.model.specs.Code.{Gives};
-ghost use Rattle.model.specs.Reading.{ownTests};
+ghost use Rattle.model.specs.Code.{cellsOf, columns};
+ghost use Rattle.table.specs.Enter.{noProgram, noCells};
+ghost use Rattle.table.specs.Reads.{Reads};
 use crate::enter;
-use crate::given;
-use crate::given::Given;
-use crate::kinds;
 use model::answer::Refusal;
 use model::answer::Verdict;
 use model::record::Record;
@@ -16,59 +11,47 @@ use model::table::Cells;
 use model::table::Program;
 use record::bytes;
 
-pub struct Read {
-    pub verdict: Verdict,
-    pub program: Program,
-    pub cells: Cells,
-}
-
-fn refused(why: Refusal, place: usize) -> Read
-    ensures { λ r. ⌜ r ≡ refusedRead why place ⌝ }
-{
-    Read {
-        verdict: Verdict::Refused(why, place),
-        program: enter::no_program(),
-        cells: enter::no_cells(),
-    }
-}
-
-// Record i, tests 2 to 7 in turn.
-fn tested(i: usize, r: Record, given: Given, program: Program) -> Verdict
-    ensures { λ v. ⌜ Gives v (ownTests r ++ placeTests given program r) i ⌝ }
-{
-    match kinds::malformed(i, r) {
-        Verdict::Refused(why, place) => Verdict::Refused(why, place),
-        Verdict::Passed => given::misplaced(i, r, given, program),
-    }
-}
-
-// The program and the cells that a table gives, if it is not refused.
-pub fn read_table(table: &[u8]) -> Read
-    ensures { λ r. ⌜ Reads (now (table .entry)) r ⌝ }
+// The program and the cells that a table gives, if it is not refused. All columns and cells are zero before.
+pub fn read_parts<'a>(
+    kinds: &'a mut [u8; Program::PLACES],
+    operands: &'a mut [u8; Program::PLACES],
+    targets: &'a mut [u8; Program::PLACES],
+    constants: &'a mut [u32; Program::PLACES],
+    counts: &'a mut [usize; Program::PROCESSORS],
+    registers: &'a mut [u32; Cells::ALL_REGISTERS],
+    memory: &'a mut [u32; Cells::LOCATIONS],
+    table: &[u8],
+) -> Verdict
+    requires { ⌜ (columns (now kinds) (now operands) (now targets) (now constants) (now counts) ≡ noProgram) × (cellsOf (now registers) (now memory) ≡ noCells) ⌝ }
+    ensures { λ v. ⌜ Reads (now (table .entry)) v (columns (now (kinds .exit)) (now (operands .exit)) (now (targets .exit)) (now (constants .exit)) (now (counts .exit))) (cellsOf (now (registers .exit)) (now (memory .exit))) ⌝ }
 {
     let n = table.len() / Record::BYTES;
     if table.len() % Record::BYTES != 0 {
-        return refused(Refusal::TableLength, n);
+        return Verdict::Refused(Refusal::TableLength, n);
     }
-    let mut program = enter::no_program();
-    let mut cells = enter::no_cells();
-    let mut given = given::nothing();
+    let mut assigned = [false; Cells::ALL_REGISTERS];
+    let mut filled = [false; Cells::LOCATIONS];
+    let mut begun = false;
     let mut i = 0;
     while i < n {
         let r = bytes::read_record(table, i);
-        match tested(i, r, given, program) {
-            Verdict::Refused(why, place) => return refused(why, place),
-            Verdict::Passed => {
-                program = enter::entered_program(program, r);
-                cells = enter::entered_cells(cells, r);
-                given = given::noted(given, r);
-                i += 1;
-            }
+        match enter::enter_record(
+            kinds,
+            operands,
+            targets,
+            constants,
+            counts,
+            registers,
+            memory,
+            &mut assigned,
+            &mut filled,
+            &mut begun,
+            i,
+            r,
+        ) {
+            Verdict::Refused(why, place) => return Verdict::Refused(why, place),
+            Verdict::Passed => i += 1,
         }
     }
-    Read {
-        verdict: Verdict::Passed,
-        program,
-        cells,
-    }
+    Verdict::Passed
 }

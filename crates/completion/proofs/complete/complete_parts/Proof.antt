@@ -1,9 +1,9 @@
 use Prim.Native.Nat.{_-_}
 use borrow.Author.Needs.{needs}
 use native.Mathlib.Omega.{arith}
+use Rattle.model.specs.Code.{columns}
 use Rattle.model.specs.declared.table.Program.{Program}
 use Rattle.machine.specs.declared.state.Machine.{Machine}
-use Rattle.rules.specs.Programs.{columns}
 use Rattle.machine.specs.Arrays.{parts}
 use Rattle.completion.proofs.Writing as writing
 use Rattle.completion.proofs.Writing.{Written, begins, ends, unfinished, fits, goes-on}

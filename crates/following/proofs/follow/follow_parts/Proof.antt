@@ -3,9 +3,9 @@ use mathlib.Core.Path.{_≡_, refl}
 use borrow.Author.Needs.{needs}
 use native.Mathlib.Omega.{arith}
 use lib.ListN.{length}
+use Rattle.model.specs.Code.{columns}
 use Rattle.model.specs.declared.table.Program.{Program}
 use Rattle.machine.specs.declared.state.Machine.{Machine}
-use Rattle.rules.specs.Programs.{columns}
 use Rattle.machine.specs.Arrays.{parts}
 use Rattle.following.proofs.Turns.{Underway, begins, odd, ends, stops, goes-on}
 use Rattle.following.proofs.follow.follow_parts.Statement.{statement}

@@ -1,7 +1,7 @@
 use borrow.Author.Needs.{needs}
+use Rattle.model.specs.Code.{columns}
 use Rattle.model.specs.declared.table.Program.{Program}
 use Rattle.machine.specs.declared.state.Machine.{Machine}
-use Rattle.rules.specs.Programs.{columns}
 use Rattle.machine.specs.Arrays.{parts}
 use Rattle.following.proofs.Turns.{in-range, misreads, takes, turns}
 use Rattle.following.proofs.follow.take_record.Statement.{statement}

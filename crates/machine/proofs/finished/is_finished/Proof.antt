@@ -1,5 +1,5 @@
+use mathlib.Core.Bool.{_&&_}
 use borrow.Author.Needs.{needs}
-use Rattle.machine.proofs.Ends.{finished-is}
 use Rattle.machine.proofs.finished.is_finished.Statement.{statement}
 use Rattle.machine.proofs.finished.is_finished.Tie as tie
 
@@ -8,8 +8,7 @@ returns c =
     let third = c .before .before .before .before .before in
     let second = third .before .before .before .before .before in
     let first = second .before .before .before .before .before in
-    let s = first .before .before .before .before .before in
-    finished-is _ _ (s .pre) _ _ _ _ (first .is-done .ensures) (second .is-done2 .ensures) (third .is-done3 .ensures) (c .is-done4 .ensures)
+    λ j. first .is-done .ensures j && second .is-done2 .ensures j && third .is-done3 .ensures j && c .is-done4 .ensures j
 
 pub is-finished-spec : {M : Type 1} → statement M
 is-finished-spec =

@@ -1,0 +1,3 @@
+// What is left of a run: k, and who moves when it is finished.
+pub mod left;
+pub mod mover;

@@ -1,0 +1,2 @@
+// The result of a check, written into the lent room.
+pub mod report;
