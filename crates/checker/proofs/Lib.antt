@@ -1,4 +1,3 @@
-pub mod Trying
 pub mod Results
 pub mod Demands
 pub mod DemandThree

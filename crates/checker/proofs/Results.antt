@@ -19,9 +19,9 @@ use Rattle.machine.specs.declared.state.Machine.{Machine}
 use Rattle.machine.specs.View.{machineOf}
 use Rattle.machine.specs.Ready.{Ready}
 use Rattle.machine.proofs.Ends.{finished-is, words-are}
-use Rattle.completion.specs.Finishing.{Underway}
+use Rattle.moves.specs.Finishing.{Underway}
 use Rattle.reporting.specs.Reports.{reportedIn}
-use Rattle.checker.specs.Tries.{Tries}
+use Rattle.trying.specs.Tries.{Tries}
 
 -- ---- what is reported, by the arrays that g and m have: it is the machine's
 

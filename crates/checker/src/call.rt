@@ -1,6 +1,5 @@
 // Both calls: the arrays of the program and of the state stand here, once, and are lent to whatever works on them.
 ghost use Rattle.checker.specs.Answers.{Answers};
-use crate::tried;
 use completion::complete;
 use model::answer::Answer;
 use model::answer::Verdict;
@@ -35,7 +34,7 @@ pub fn answer(
     let mut issued = [0usize; Program::PROCESSORS];
     let mut drained = [0usize; Program::PROCESSORS];
     let mut holder = NOBODY;
-    match tried::try_trace(
+    match trying::try_trace(
         &mut kinds,
         &mut operands,
         &mut targets,

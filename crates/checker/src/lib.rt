@@ -2,4 +2,3 @@
 mod call;
 pub mod check;
 pub mod finish;
-mod tried;

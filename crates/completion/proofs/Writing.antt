@@ -23,7 +23,8 @@ use Rattle.record.specs.Bytes.{withRecord}
 use Rattle.record.proofs.Stores.{one-more}
 use Rattle.machine.specs.declared.state.Machine.{Machine}
 use Rattle.machine.specs.View.{machineOf}
-use Rattle.completion.specs.Finishing.{Underway, HasMore, FinishesBy, Completable, completedIn}
+use Rattle.moves.specs.Finishing.{Underway, HasMore, FinishesBy}
+use Rattle.completion.specs.Completing.{Completable, completedIn}
 
 file-more : (rs : List Record) (r : Record) → fileOf (rs ++ (r ∷ [])) ≡ fileOf rs ++ bytesOf r
 unfolding fileOf

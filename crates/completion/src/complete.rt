@@ -5,14 +5,15 @@ ghost use Rattle.model.specs.Calls.{completedAt};
 ghost use Rattle.model.specs.Reply.{replyOf};
 ghost use Rattle.machine.specs.Arrays.{parts};
 ghost use Rattle.machine.specs.View.{machineOf};
-ghost use Rattle.completion.specs.Finishing.{Underway, Completable, completedIn};
-use crate::finishing;
+ghost use Rattle.moves.specs.Finishing.{Underway};
+ghost use Rattle.completion.specs.Completing.{Completable, completedIn};
 use ending::left;
 use model::answer::Answer;
 use model::answer::Refusal;
 use model::record::Record;
 use model::table::Cells;
 use model::table::Program;
+use moves::finishing;
 use record::bytes;
 
 // The k steps that are left, from the start of the room on.

@@ -1,4 +1,2 @@
-// Finishing a run: the finishing step, and the steps that complete it.
+// Finishing a run: the steps that complete it.
 pub mod complete;
-mod finishing;
-mod moves;

@@ -9,7 +9,7 @@ use lib.Dec.{eqb}
 use borrow.Author.Tests.{eqb-true}
 use Rattle.model.specs.Code.{placeAt}
 use Rattle.model.proofs.Bools.{and-left}
-use Rattle.effects.specs.Stores.{Drainable}
+use Rattle.store.specs.Stores.{Drainable}
 use Rattle.effects.specs.Takes.{isOldest, MayDrain}
 
 pub may-drain : (locations values drained : List ℕ) (issued p x v : ℕ) (b : Bool) → MayDrain locations values issued (getD drained p 0) p → ¬ (getD drained p 0 ≡ issued)

@@ -12,7 +12,7 @@ use Rattle.model.specs.Sizes.{processors, registersEach}
 use Rattle.model.specs.Step.{newest}
 use Rattle.rules.specs.Guards.{permits, issuedBy}
 use Rattle.rules.specs.Offers.{waitingFrom, Log}
-use Rattle.effects.specs.Stores.{receivedRegisters, receivedKept, exchangedRegisters, nextPlace, Issuable}
+use Rattle.store.specs.Stores.{receivedRegisters, receivedKept, exchangedRegisters, nextPlace, Issuable}
 
 -- the event names location y and value w
 abbrev pub names : (x v y w : ℕ) → Bool

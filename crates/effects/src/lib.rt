@@ -1,3 +1,2 @@
-// What steps do to the arrays that they touch: single stores, and a step of each kind, taken if it is allowed.
-pub mod store;
+// What steps do to the arrays that they touch: a step of each kind, taken if it is allowed.
 pub mod take;

@@ -7,7 +7,6 @@ ghost use lib.ListN.{getD};
 ghost use Rattle.model.specs.Sizes.{processors, registersEach};
 ghost use Rattle.rules.specs.Guards.{nobody, permits};
 ghost use Rattle.effects.specs.Takes.{names, MayDrain, Drains, MayRead, Reads, MayWrite, Writes, Holds, Assigns};
-use crate::store;
 use model::table::Cells;
 use model::table::Program;
 use rules::guards;

@@ -14,7 +14,7 @@ use Rattle.machine.specs.declared.state.Machine.{Machine}
 use Rattle.machine.specs.View.{processorOf, holderOf, machineOf}
 use Rattle.machine.specs.Ready.{Ready}
 use Rattle.machine.proofs.Ends.{done-is}
-use Rattle.machine.specs.Arrays.{doneAt}
+use Rattle.finished.specs.Finished.{doneAt}
 use Rattle.ending.specs.Mover.{firstBusyFrom, moverIn}
 
 -- ---- the search for the first processor that is not done

@@ -5,7 +5,7 @@ use Prim.Native.Nat.{ℕ, zero, suc}
 use lib.Dec.{eqb}
 use Rattle.model.specs.Sizes.{processors}
 use Rattle.rules.specs.Guards.{nobody}
-use Rattle.machine.specs.Arrays.{doneAt}
+use Rattle.finished.specs.Finished.{doneAt}
 
 -- the first of the n processors from p on that is not done
 unfoldable pub firstBusyFrom : (ℕ → Bool) → ℕ → ℕ → ℕ

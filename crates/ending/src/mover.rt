@@ -1,7 +1,6 @@
 // Who moves when a run is finished.
 ghost use mathlib.Core.Path.{_≡_};
 ghost use Rattle.ending.specs.Mover.{moverIn};
-use machine::finished;
 use model::table::Program;
 use rules::guards::NOBODY;
 

@@ -15,7 +15,7 @@ use Rattle.model.specs.Calls.{completedAt, completed}
 use Rattle.model.proofs.Given.{stops-number}
 use Rattle.model.proofs.Replies.{replied-is, written-is}
 use Rattle.model.proofs.Rooms.{finish-lends}
-use Rattle.text.specs.Steps.{InRoom}
+use Rattle.notation.specs.Steps.{InRoom}
 
 abbrev Fits : List ℕ → Reply → Type 0
 Fits room reply = reply .number ≡ 0 → reply .place * recordSize ≤ length room

@@ -5,7 +5,7 @@ ghost use lib.ListN.{length};
 ghost use Rattle.io.specs.Counts.{Counts};
 ghost use Rattle.model.specs.Calls.{completed};
 ghost use Rattle.model.specs.Reply.{replyOf};
-ghost use Rattle.text.specs.Steps.{shown, InRoom};
+ghost use Rattle.notation.specs.Steps.{shown, InRoom};
 ghost use Rattle.text.specs.Text.{Adds};
 use files::read;
 use files::say::read_or_say;
@@ -13,8 +13,8 @@ use files::say::say;
 use files::write::write_file;
 use model::answer::Answer;
 use model::record::Record;
-use text::added;
-use text::added::put_added;
+use notation::added;
+use notation::added::put_added;
 
 // An answer, and the length of its text.
 pub struct Shown {

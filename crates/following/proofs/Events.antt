@@ -13,8 +13,8 @@ use Rattle.model.specs.Tests.{tooLarge, notZero}
 use Rattle.model.specs.Code.{Gives}
 use Rattle.model.specs.Calls.{stepTests}
 use Rattle.model.proofs.Verdicts.{met, past, none-left}
-use Rattle.record.specs.Fields.{rowOf, unknownBy, tooLargeBy, notZeroBy}
-use Rattle.record.proofs.Tests.{unknown-is, too-large-is, not-zero-is}
+use Rattle.fields.specs.Fields.{rowOf, unknownBy, tooLargeBy, notZeroBy}
+use Rattle.fields.proofs.Tests.{unknown-is, too-large-is, not-zero-is}
 
 pub rows : length stepUses ≡ 8
 unfolding stepUses

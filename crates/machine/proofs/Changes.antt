@@ -17,7 +17,7 @@ use Rattle.machine.specs.declared.state.Machine.{Machine}
 use Rattle.rules.specs.Offers.{writesIn}
 use Rattle.machine.specs.View.{waitingIn, todoIn, processorOf, holderOf, machineOf}
 use Rattle.machine.specs.Arrays.{parts}
-use Rattle.effects.specs.Stores.{isLast, nextAt}
+use Rattle.store.specs.Stores.{isLast, nextAt}
 use Rattle.machine.specs.Stores.{assignedIn, advancedIn, drainedIn, heldIn}
 use Rattle.machine.specs.Ready.{Own, Long}
 use Rattle.machine.proofs.Logs.{pushedIn, Bounds, pushed-own, pushed-other, newerIn}

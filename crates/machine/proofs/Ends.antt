@@ -14,9 +14,9 @@ use Rattle.model.specs.Reply.{registersIn, words}
 use Rattle.model.specs.Finish.{isDone, areDone, isFinished}
 use Rattle.model.specs.Code.{countIn}
 use Rattle.model.proofs.Rows.{rows-whole}
+use Rattle.finished.specs.Finished.{doneAt, finishedIn}
 use Rattle.machine.specs.declared.state.Machine.{Machine}
 use Rattle.machine.specs.View.{todoIn, processorOf, machineOf}
-use Rattle.machine.specs.Arrays.{doneAt, finishedIn}
 use Rattle.machine.specs.Ready.{ReadyAt, Ready}
 use Rattle.machine.proofs.Todo.{none-left, next-left}
 use Rattle.machine.proofs.Logs.{waits-none}

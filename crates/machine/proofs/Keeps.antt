@@ -20,7 +20,7 @@ use Rattle.machine.specs.View.{todoIn}
 use Rattle.rules.specs.Steps.{stepKind, stepCount}
 use Rattle.machine.specs.Arrays.{nextOf}
 use Rattle.rules.specs.Offers.{nextIn}
-use Rattle.effects.specs.Stores.{nextPlace, isLast, nextAt, nextPhase}
+use Rattle.store.specs.Stores.{nextPlace, isLast, nextAt, nextPhase}
 use Rattle.machine.specs.Stores.{advancedIn, assignedIn, heldIn, carriedOut}
 use Rattle.machine.specs.Ready.{Long, Stands, ReadyAt, Ready}
 use Rattle.rules.specs.Programs.{Fetched}

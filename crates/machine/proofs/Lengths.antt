@@ -9,7 +9,7 @@ use Rattle.model.specs.Sizes.{processors, registersEach, locations, instruction
 use Rattle.model.specs.Rules.{Event}
 use Rattle.machine.specs.declared.state.Machine.{Machine}
 use Rattle.machine.specs.Arrays.{parts}
-use Rattle.effects.specs.Stores.{isLast}
+use Rattle.store.specs.Stores.{isLast}
 use Rattle.machine.specs.Stores.{advancedIn, drainedIn}
 use Rattle.machine.specs.Ready.{Long}
 

@@ -17,7 +17,7 @@ use Rattle.machine.specs.declared.state.Machine.{Machine}
 use Rattle.rules.specs.Offers.{writesIn}
 use Rattle.machine.specs.View.{waitingIn}
 use Rattle.machine.specs.Arrays.{parts}
-use Rattle.effects.specs.Stores.{nextPlace}
+use Rattle.store.specs.Stores.{nextPlace}
 use Rattle.machine.specs.Ready.{Long}
 use Rattle.rules.proofs.Lookup.{part-none, part-some, part-more}
 

@@ -26,7 +26,7 @@ use Rattle.rules.specs.Programs.{fetched, Fetched}
 use Rattle.rules.specs.Guards.{permits}
 use Rattle.rules.specs.Offers.{nextIn, offeredIn}
 use Rattle.machine.specs.Arrays.{oldestOf, nextOf, offeredOf, isDry}
-use Rattle.effects.specs.Stores.{isLast}
+use Rattle.store.specs.Stores.{isLast}
 use Rattle.machine.specs.Stores.{advancedIn, afterEvent}
 use Rattle.machine.specs.Ready.{Own, ReadyAt, Ready}
 use Rattle.machine.proofs.Todo.{stepFor, restAt, none-left, next-left, rest-left}

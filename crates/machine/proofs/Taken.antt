@@ -21,7 +21,7 @@ use Rattle.rules.specs.Steps.{stepsOfKind, stepKind}
 use Rattle.machine.specs.Arrays.{oldestOf, nextOf, offeredOf}
 use Rattle.rules.specs.Offers.{nextIn, oldestIn, offeredIn}
 use Rattle.machine.specs.Stores.{drainedIn, carriedOut, afterEvent}
-use Rattle.effects.specs.Stores.{Onward}
+use Rattle.store.specs.Stores.{Onward}
 use Rattle.machine.specs.Ready.{ReadyAt, Ready}
 use Rattle.rules.specs.Programs.{Fetched}
 use Rattle.machine.proofs.Todo.{stepFor, by-kind}

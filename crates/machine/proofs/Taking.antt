@@ -20,7 +20,7 @@ use Rattle.rules.specs.Steps.{phases, stepsOfKind, stepKind, stepCount}
 use Rattle.rules.specs.Programs.{fetched, Fetched}
 use Rattle.rules.specs.Offers.{Log, oldestIn, offeredIn}
 use Rattle.rules.proofs.Instructions.{fetched-is}
-use Rattle.effects.specs.Stores.{nextAt, nextPhase, Onward}
+use Rattle.store.specs.Stores.{nextAt, nextPhase, Onward}
 use Rattle.effects.specs.Takes.{MayDrain, Drains, drainAllowed, names}
 use Rattle.machine.specs.declared.state.Machine.{Machine}
 use Rattle.machine.specs.Arrays.{parts, isDry, oldestOf, nextOf, offeredOf}

@@ -1,5 +1,5 @@
 -- A state as its arrays. i is the instruction that a processor stands at.
-use mathlib.Core.Bool.{Bool, _&&_}
+use mathlib.Core.Bool.{Bool}
 use mathlib.Core.List.{List}
 use Prim.Native.Nat.{ℕ, _*_}
 use lib.ListN.{getD, replicate}
@@ -33,19 +33,6 @@ startIn c =
     let zeros : List ℕ = replicate processors 0 in
     let log : List ℕ = replicate (processors * instructionsEach) 0 in
     parts (c .registers) (c .memory) zeros zeros zeros log log zeros zeros nobody
-
--- processor at instruction `at` of `count`, of whose `issued` writes `drained` are drained
-abbrev pub doneIn : (at count drained issued : ℕ) → Bool
-doneIn at count drained issued = eqb at count && eqb drained issued
-
--- processor p, and all four
-abbrev pub doneAt : (at counts drained issued : List ℕ) → ℕ → Bool
-doneAt at counts drained issued p = doneIn (getD at p 0) (getD counts p 0) (getD drained p 0) (getD issued p 0)
-
-abbrev pub finishedIn : (at counts drained issued : List ℕ) → Bool
-finishedIn at counts drained issued =
-    let done : ℕ → Bool = doneAt at counts drained issued in
-    done 0 && done 1 && done 2 && done 3
 
 -- ---- the step that a processor can come to in it
 

@@ -11,7 +11,7 @@ use Rattle.model.specs.Rules.{Event}
 use Rattle.model.specs.Step.{same}
 use Rattle.rules.specs.Guards.{permits}
 use Rattle.rules.specs.Offers.{Log}
-use Rattle.effects.specs.Stores.{Issuable}
+use Rattle.store.specs.Stores.{Issuable}
 use Rattle.machine.specs.declared.state.Machine.{Machine}
 use Rattle.machine.specs.Arrays.{parts, isDry, nextOf}
 use Rattle.machine.specs.Stores.{carriedOut}

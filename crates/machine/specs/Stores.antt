@@ -9,7 +9,7 @@ use Rattle.model.specs.declared.record.Record.{Record}
 use Rattle.model.specs.Rules.{Event}
 use Rattle.rules.specs.Guards.{nobody}
 use Rattle.machine.specs.declared.state.Machine.{Machine}
-use Rattle.effects.specs.Stores.{receivedRegisters, receivedKept, exchangedRegisters, nextPlace, nextAt, nextPhase}
+use Rattle.store.specs.Stores.{receivedRegisters, receivedKept, exchangedRegisters, nextPlace, nextAt, nextPhase}
 use Rattle.machine.specs.Arrays.{parts}
 
 abbrev pub drainedIn : Machine → Event → Machine

@@ -1,5 +1,4 @@
-// The x86-TSO machine: its state in plain arrays, one step, and whether a run is finished.
-pub mod finished;
+// The x86-TSO machine: its state in plain arrays, and one step.
 mod next;
 pub mod state;
 pub mod step;

@@ -12,7 +12,7 @@ fn wide(byte: u8) -> u32
     byte as u32
 }
 
-fn value(a: u8, b: u8, c: u8, d: u8) -> u32
+pub fn value(a: u8, b: u8, c: u8, d: u8) -> u32
     ensures { λ r. ⌜ r ≡ valueOf a b c d ⌝ }
 {
     wide(a) + wide(b) * 256 + wide(c) * 65536 + wide(d) * 16777216
@@ -33,7 +33,7 @@ pub fn read_record(bytes: &[u8], i: usize) -> Record
     }
 }
 
-fn low(v: u32) -> u8
+pub fn low(v: u32) -> u8
     ensures { λ r. ⌜ r ≡ v % 256 ⌝ }
 {
     (v % 256) as u8

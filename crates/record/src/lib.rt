@@ -1,3 +1,2 @@
-// One record of eight bytes: read, written, and its fields tested.
+// One record of eight bytes: read, and written.
 pub mod bytes;
-pub mod fields;

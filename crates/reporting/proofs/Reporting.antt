@@ -9,7 +9,7 @@ use lib.Seq.{paste, take-all, take-at, drop-append-add, drop-drop}
 use borrow.Author.Tests.{not-true, not-false}
 use Rattle.model.specs.Reply.{Reply, done, refuse}
 use Rattle.model.proofs.Replies.{written-fits, written-not}
-use Rattle.machine.specs.Arrays.{finishedIn}
+use Rattle.finished.specs.Finished.{finishedIn}
 use Rattle.reporting.specs.Reports.{reportedIn}
 
 -- ---- the two copies

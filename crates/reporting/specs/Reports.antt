@@ -5,7 +5,7 @@ use Prim.Native.Nat.{ℕ}
 use Rattle.model.specs.Sizes.{resultWords}
 use Rattle.model.specs.Reply.{Reply, refuse}
 use Rattle.model.specs.Calls.{written}
-use Rattle.machine.specs.Arrays.{finishedIn}
+use Rattle.finished.specs.Finished.{finishedIn}
 
 unfoldable pub reportedIn : (counts registers memory at issued drained : List ℕ) → ℕ → List ℕ → Reply
 unfolding written

@@ -5,7 +5,6 @@ ghost use lib.ListN.{length};
 ghost use lib.Seq.{paste};
 ghost use Rattle.model.specs.Reply.{replyOf};
 ghost use Rattle.reporting.specs.Reports.{reportedIn};
-use machine::finished;
 use model::answer::Answer;
 use model::answer::Refusal;
 use model::table::Cells;

@@ -16,8 +16,9 @@ use Rattle.model.specs.Table.{extended, enter}
 use Rattle.model.specs.Code.{row, countIn, stepsIn, instructionAt, stepsFrom, processorAtStart, startOf, Fits}
 use Rattle.model.proofs.Rows.{row-set, row-set-other, places-apart, four-get, four-set}
 use Rattle.model.proofs.Columns.{steps-more, steps-same}
-use Rattle.table.specs.Given.{Formed}
-use Rattle.table.specs.Enter.{withMemory, withRegister, withInstruction}
+use Rattle.initial.specs.Given.{Formed}
+use Rattle.initial.specs.Cells.{withMemory, withRegister}
+use Rattle.entering.specs.Enter.{withInstruction}
 
 -- ---- one processor replaced
 

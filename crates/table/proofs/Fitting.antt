@@ -12,8 +12,8 @@ use Rattle.model.specs.Sizes.{processors, instructionsEach}
 use Rattle.model.specs.Code.{countIn, instructionAt, Fit, Fits}
 use Rattle.model.proofs.Bools.{one}
 use Rattle.model.proofs.Lists.{each}
-use Rattle.table.specs.Given.{Formed}
-use Rattle.table.specs.Enter.{withInstruction}
+use Rattle.initial.specs.Given.{Formed}
+use Rattle.entering.specs.Enter.{withInstruction}
 use Rattle.table.proofs.Entering.{count-own, count-other, at-own, at-before, at-elsewhere}
 
 pub fits-more : (g : Program) (r : Record) → Formed r → Fits g → countIn g (r .processor) < instructionsEach → 2 < r .kind → Fits (withInstruction g r)

@@ -22,9 +22,12 @@ use Rattle.model.specs.Code.{countIn, stepsFrom, processorAtStart, startOf, Fit
 use Rattle.model.proofs.Bools.{one}
 use Rattle.model.proofs.Readable.{isOf}
 use Rattle.model.proofs.Rows.{alike}
-use Rattle.table.specs.Given.{Given, Formed, nothingGiven, crowdedIn, placeTests, memoryNoted, registerNoted, instructionNoted, notedIn}
-use Rattle.table.specs.Enter.{noProgram, noCells, withMemory, withRegister, withInstruction, programWith, cellsWith}
-use Rattle.table.proofs.Forms.{formed, room, rec, entry-instruction}
+use Rattle.initial.specs.Given.{Given, Formed, nothingGiven, crowdedIn, placeTests, memoryNoted, registerNoted, instructionNoted, notedIn}
+use Rattle.initial.specs.Cells.{withMemory, withRegister, cellsWith}
+use Rattle.initial.proofs.Forms.{formed}
+use Rattle.entering.specs.Enter.{withInstruction, programWith}
+use Rattle.table.specs.Reads.{noProgram, noCells}
+use Rattle.table.proofs.Instructions.{room, rec, entry-instruction}
 use Rattle.table.proofs.Entering.{memory-entered, register-entered, instruction-entered}
 use Rattle.table.proofs.Fitting.{fits-more, count-up}
 use Rattle.table.proofs.More.{any-more, instructions-more, start-more, flag-up, cells-apart}

@@ -23,11 +23,12 @@ use Rattle.model.specs.Reading.{readRecord, reading, ownTests}
 use Rattle.model.specs.Code.{testedOf, Fits, Sized}
 use Rattle.model.proofs.Tests.{then-passed, then-refused}
 use Rattle.model.proofs.InOrder.{in-order-more, in-order-stop, file-whole, file-not-whole}
-use Rattle.table.specs.Given.{Given, Formed, crowdedIn, placeTests, notedIn}
-use Rattle.table.specs.Enter.{noProgram, noCells, programWith, cellsWith, ifPassed, Enters}
-use Rattle.table.specs.Reads.{Reads}
 use Rattle.model.proofs.Verdicts.{gives-none, gives-any}
-use Rattle.table.proofs.Forms.{formed}
+use Rattle.initial.specs.Given.{Given, Formed, crowdedIn, placeTests, notedIn}
+use Rattle.initial.specs.Cells.{cellsWith, ifPassed}
+use Rattle.initial.proofs.Forms.{formed}
+use Rattle.entering.specs.Enter.{programWith, Enters}
+use Rattle.table.specs.Reads.{noProgram, noCells, Reads}
 use Rattle.table.proofs.Holding.{Holds, fits-none, sized-none, tests-agree, next-holds}
 
 -- the entries of the first i records

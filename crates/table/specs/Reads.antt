@@ -1,14 +1,28 @@
--- What reading a table promises.
+-- What reading a table asks and promises.
 use mathlib.Core.Path.{_≡_}
 use mathlib.Core.List.{List}
-use Prim.Native.Nat.{ℕ}
+use Prim.Native.Nat.{ℕ, _*_}
+use lib.ListN.{replicate}
 use Rattle.model.specs.declared.answer.Verdict.{Verdict}
 use Rattle.model.specs.declared.table.Program.{Program}
 use Rattle.model.specs.declared.table.Cells.{Cells}
-use Rattle.model.specs.Code.{testedOf, startOf, Fits, Sized}
+use Rattle.model.specs.Sizes.{processors, registersEach, locations, instructionsEach}
+use Rattle.model.specs.Code.{columns, cellsOf, testedOf, startOf, Fits, Sized}
 use Rattle.model.specs.Reading.{reading}
 use Rattle.model.specs.Table.{start}
 use Rattle.model.specs.Tests.{andThen, passed}
+
+-- ---- nothing entered
+
+abbrev pub noProgram : Program
+noProgram =
+    let zeros : List ℕ = replicate (processors * instructionsEach) 0 in
+    columns zeros zeros zeros zeros (replicate processors 0)
+
+abbrev pub noCells : Cells
+noCells = cellsOf (replicate (processors * registersEach) 0) (replicate locations 0)
+
+-- ---- the whole table
 
 -- the verdict is the definition's, and a table that passed gives the machine that its entries start
 pub record Reads (table : List ℕ) (verdict : Verdict) (program : Program) (cells : Cells) : Type 0 where

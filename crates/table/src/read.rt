@@ -1,9 +1,8 @@
 // The whole table.
 ghost use mathlib.Core.Path.{_≡_};
 ghost use Rattle.model.specs.Code.{cellsOf, columns};
-ghost use Rattle.table.specs.Enter.{noProgram, noCells};
-ghost use Rattle.table.specs.Reads.{Reads};
-use crate::enter;
+ghost use Rattle.table.specs.Reads.{noProgram, noCells, Reads};
+use entering::enter;
 use model::answer::Refusal;
 use model::answer::Verdict;
 use model::record::Record;

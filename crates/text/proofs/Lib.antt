@@ -1,5 +1,4 @@
 pub mod Adding
 pub mod Decimal
 pub mod Listings
-pub mod Notation
 pub mod Replied

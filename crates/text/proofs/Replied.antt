@@ -1,4 +1,4 @@
--- A refusal is its line, for either call.
+-- A refusal is its line.
 use mathlib.Core.Path.{_≡_, refl}
 use mathlib.Core.List.{List}
 use Prim.Native.Nat.{ℕ, suc}
@@ -7,10 +7,9 @@ use Rattle.model.specs.declared.answer.Refusal.the-variants.{TableLength, Table
 use Rattle.model.specs.declared.answer.Answer.the-variants.{Refused}
 use Rattle.model.specs.Reply.{numberOf, replyOf}
 use Rattle.text.specs.Reply.{refusedLine, linesOf, listed}
-use Rattle.text.specs.Steps.{shownBy, shown}
 
 -- no refusal is number 0
-above : (line by : ℕ → List ℕ) → ((n : ℕ) → line (suc n) ≡ by (suc n)) → (why : Refusal) → line (numberOf why) ≡ by (numberOf why)
+pub above : (line by : ℕ → List ℕ) → ((n : ℕ) → line (suc n) ≡ by (suc n)) → (why : Refusal) → line (numberOf why) ≡ by (numberOf why)
 above line by h TableLength = h 0
 above line by h TableKind = h 1
 above line by h TableRange = h 2
@@ -25,11 +24,6 @@ above line by h NotAllowed = h 10
 above line by h Unfinished = h 11
 above line by h RoomTooSmall = h 12
 
-module _ (why : Refusal) (place : ℕ) (room : List ℕ) where
-  pub refusal-listed : refusedLine (numberOf why) place ≡ listed (replyOf (Refused why place) room)
-  unfolding linesOf listed
-  refusal-listed = above (λ n. refusedLine n place) (λ n. linesOf n place room) (λ n. refl) why
-
-  pub refusal-shown : refusedLine (numberOf why) place ≡ shown (replyOf (Refused why place) room)
-  unfolding shownBy shown
-  refusal-shown = above (λ n. refusedLine n place) (λ n. shownBy n place room) (λ n. refl) why
+pub refusal-listed : (why : Refusal) (place : ℕ) (room : List ℕ) → refusedLine (numberOf why) place ≡ listed (replyOf (Refused why place) room)
+unfolding linesOf listed
+refusal-listed why place room = above (λ n. refusedLine n place) (λ n. linesOf n place room) (λ n. refl) why

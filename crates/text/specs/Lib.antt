@@ -1,3 +1,2 @@
 pub mod Reply
-pub mod Steps
 pub mod Text

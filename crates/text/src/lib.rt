@@ -1,6 +1,4 @@
-// Text as bytes in a lent buffer: numbers, steps, and the text of a reply.
-pub mod added;
+// Text as bytes in a lent buffer: numbers, and the text of a reply.
 pub mod lines;
 pub mod put;
 pub mod reply;
-pub mod steps;

@@ -3,7 +3,7 @@ use native.Mathlib.Omega.{arith}
 use borrow.Author.Needs.{needs}
 use borrow.Author.Tests.{eq-eqb, ne-eqb, not-true, not-false}
 use Rattle.model.specs.Sizes.{processors}
-use Rattle.machine.specs.Arrays.{doneAt}
+use Rattle.finished.specs.Finished.{doneAt}
 use Rattle.ending.specs.Mover.{moverIn}
 use Rattle.ending.proofs.Movers.{Searched, begins, ends, found, goes-on}
 use Rattle.ending.proofs.mover.mover.Statement.{statement}

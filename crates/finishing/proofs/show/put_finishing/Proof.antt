@@ -1,7 +1,7 @@
 use mathlib.Core.Path.{ap}
 use borrow.Author.Needs.{needs}
 use lib.ListN.{length}
-use Rattle.text.specs.Steps.{shown, InRoom}
+use Rattle.notation.specs.Steps.{shown, InRoom}
 use Rattle.text.proofs.Adding.{said}
 use Rattle.finishing.proofs.Fits.{in-room}
 use Rattle.finishing.proofs.show.put_finishing.Statement.{statement}

@@ -6,7 +6,7 @@ use borrow.Author.Needs.{needs}
 use lib.ListN.{length}
 use lib.Seq.{length-take-le}
 use Rattle.model.specs.declared.answer.Answer.{Answer}
-use Rattle.text.specs.Steps.{InRoom}
+use Rattle.notation.specs.Steps.{InRoom}
 use Rattle.finishing.proofs.show.show_reply.Statement.{statement}
 use Rattle.finishing.proofs.show.show_reply.Tie as tie
 

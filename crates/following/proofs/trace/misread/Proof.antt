@@ -1,6 +1,6 @@
 use borrow.Author.Needs.{needs}
 use Rattle.model.specs.Kinds.{stepUses}
-use Rattle.record.proofs.Tests.{known-row}
+use Rattle.fields.proofs.Tests.{known-row}
 use Rattle.following.proofs.Events.{rows, kind-unknown, wrong-field, well-formed}
 use Rattle.following.proofs.trace.misread.Statement.{statement}
 use Rattle.following.proofs.trace.misread.Tie as tie

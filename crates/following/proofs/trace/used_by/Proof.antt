@@ -6,7 +6,7 @@ use native.Mathlib.Omega.{arith}
 use Rattle.model.specs.Fields.{among}
 use Rattle.model.specs.Kinds.{stepUses}
 use Rattle.model.proofs.Rows.{below}
-use Rattle.record.specs.Fields.{rowOf}
+use Rattle.fields.specs.Fields.{rowOf}
 use Rattle.following.proofs.trace.used_by.Statement.{statement}
 use Rattle.following.proofs.trace.used_by.Tie as tie
 

@@ -5,7 +5,7 @@ use native.Mathlib.Omega.{arith}
 use lib.ListN.{length}
 use Rattle.model.specs.Code.{cellsOf, columns}
 use Rattle.model.specs.Reading.{reading}
-use Rattle.table.specs.Given.{flags}
+use Rattle.initial.specs.Given.{flags}
 use Rattle.table.proofs.Holding.{Holds, holds-none}
 use Rattle.table.proofs.Turns.{entries, onward, odd, begins, ends, stops, holds-on, goes-on}
 use Rattle.table.proofs.read.read_parts.Statement.{statement}

@@ -1,0 +1,3 @@
+pub mod Notation
+pub mod Shown
+pub mod Samples

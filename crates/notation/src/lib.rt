@@ -1,0 +1,3 @@
+// Steps in the notation of handover sheets, and the text of a finish.
+pub mod added;
+pub mod steps;

@@ -1,0 +1,86 @@
+//! The two calls: document 01's numbers 8 to 13, and the order of all.
+
+use crate::kinds::Step;
+use crate::record::{records, Record};
+use crate::reply::{self, Reply};
+use crate::run::{Run, CELLS};
+use crate::table::{self, Table};
+
+/// Checks a whole trace. On 0 the room takes registers and memory.
+pub fn check(table: &[u8], trace: &[u8], room: &mut [u32]) -> Reply {
+    reply(try_check(table, trace, room))
+}
+
+/// Finishes a trace. On 0 the room takes the k steps that were left.
+pub fn finish(table: &[u8], trace: &[u8], room: &mut [u8]) -> Reply {
+    reply(try_finish(table, trace, room))
+}
+
+fn try_check(table: &[u8], trace: &[u8], room: &mut [u32]) -> Result<usize, Reply> {
+    let table = table::read(table)?;
+    let run = follow(&table, trace)?;
+    let steps = run.steps().len();
+    if !run.finished() {
+        return Err(Reply::new(reply::UNFINISHED, steps));
+    }
+    lent(room, CELLS)?.copy_from_slice(&run.cells());
+    Ok(steps)
+}
+
+fn try_finish(table: &[u8], trace: &[u8], room: &mut [u8]) -> Result<usize, Reply> {
+    let table = table::read(table)?;
+    let mut run = follow(&table, trace)?;
+    let k = run.left();
+    let room = lent(room, k * Record::BYTES)?;
+    for record in room.chunks_exact_mut(Record::BYTES) {
+        if let Some(step) = run.finishing_step() {
+            record.copy_from_slice(&step.bytes());
+            run.take(step);
+        }
+    }
+    Ok(k)
+}
+
+/// The run after the whole trace, or the first refusal of 8 to 11.
+fn follow<'t>(table: &'t Table, trace: &[u8]) -> Result<Run<'t>, Reply> {
+    let steps = records(trace);
+    if trace.len() % Record::BYTES != 0 {
+        return Err(Reply::new(reply::TRACE_LENGTH, steps.len()));
+    }
+    let mut run = Run::new(table);
+    for (place, &step) in steps.iter().enumerate() {
+        if let Some(number) = refusal(&run, step) {
+            return Err(Reply::new(number, place));
+        }
+        run.take(step);
+    }
+    Ok(run)
+}
+
+/// Numbers 9 to 11 for one step.
+fn refusal(run: &Run, step: Record) -> Option<u64> {
+    let uses = match Step::of(step.kind) {
+        Some(kind) => kind.uses(),
+        None => return Some(reply::STEP_KIND),
+    };
+    if step.used_too_large(uses) || step.unused_not_zero(uses) {
+        Some(reply::STEP_FIELD)
+    } else if !run.allowed(step) {
+        Some(reply::STEP_NOT_ALLOWED)
+    } else {
+        None
+    }
+}
+
+/// The part of the room that is needed, or 13.
+fn lent<T>(room: &mut [T], needed: usize) -> Result<&mut [T], Reply> {
+    room.get_mut(..needed)
+        .ok_or_else(|| Reply::new(reply::ROOM_TOO_SMALL, needed))
+}
+
+fn reply(result: Result<usize, Reply>) -> Reply {
+    match result {
+        Ok(place) => Reply::new(reply::DONE, place),
+        Err(refused) => refused,
+    }
+}

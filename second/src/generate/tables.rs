@@ -1,0 +1,183 @@
+//! Readable tables of all sizes, and the damage that makes each of 1 to 7.
+
+use super::damage::{damage_bytes, damage_record};
+use crate::dice::Dice;
+use crate::kinds;
+use crate::record::{bytes, records, Field, Record, LOCATIONS, PROCESSORS, REGISTERS};
+use crate::table::{is_instruction, INSTRUCTIONS};
+
+/// Each kind of instruction, the common ones twice.
+const ALL_KINDS: [u8; 12] = [
+    kinds::STORE_CONSTANT,
+    kinds::STORE_CONSTANT,
+    kinds::STORE_REGISTER,
+    kinds::LOAD,
+    kinds::LOAD,
+    kinds::SET_REGISTER,
+    kinds::FENCE,
+    kinds::EXCHANGE,
+    kinds::LOCKED_EXCHANGE,
+    kinds::EXCHANGE_AND_ADD,
+    kinds::LOCKED_EXCHANGE_AND_ADD,
+    kinds::LOCKED_EXCHANGE_AND_ADD,
+];
+
+/// As litmus tests have them: what waits, what reads past it, and what stops either.
+const FEW_KINDS: [u8; 5] = [
+    kinds::STORE_CONSTANT,
+    kinds::STORE_CONSTANT,
+    kinds::LOAD,
+    kinds::FENCE,
+    kinds::LOCKED_EXCHANGE_AND_ADD,
+];
+
+/// What a table has in use: few processors, registers and locations, so that processors meet.
+#[derive(Clone, Copy)]
+struct InUse {
+    kinds: &'static [u8],
+    processors: usize,
+    registers: usize,
+    locations: usize,
+}
+
+const ALL: InUse = InUse {
+    kinds: &ALL_KINDS,
+    processors: PROCESSORS,
+    registers: REGISTERS,
+    locations: LOCATIONS,
+};
+
+pub fn table(dice: &mut Dice) -> Vec<Record> {
+    let in_use = InUse {
+        kinds: dice.pick(&[&ALL_KINDS[..], &FEW_KINDS]),
+        processors: dice.pick(&[1, 2, 2, 2, 3, PROCESSORS]),
+        registers: dice.pick(&[1, 2, REGISTERS]),
+        locations: dice.pick(&[1, 2, 2, 2, 3, 4, LOCATIONS]),
+    };
+    let each = dice.pick(&[0, 1, 1, 2, 2, 2, 3, 3, 4, 6, INSTRUCTIONS]);
+    if dice.one_in(50) {
+        filled(dice, ALL, INSTRUCTIONS)
+    } else {
+        filled(dice, in_use, each)
+    }
+}
+
+/// Initial records, then instructions of the processors in turns; each processor has at most so many.
+fn filled(dice: &mut Dice, in_use: InUse, each: usize) -> Vec<Record> {
+    let mut table = initial(dice, in_use);
+    let mut left = vec![each; in_use.processors];
+    while let Some(processor) = dice.find(&indices(&left, |&left| left > 0)) {
+        left[processor] -= 1;
+        if each == INSTRUCTIONS || !dice.one_in(4) {
+            let kind = dice.pick(in_use.kinds);
+            let mut record = record(dice, kind, in_use);
+            record.processor = processor as u8;
+            table.push(record);
+        }
+    }
+    table
+}
+
+/// Initial records of no cell, some or all, in any order.
+fn initial(dice: &mut Dice, in_use: InUse) -> Vec<Record> {
+    let mut cells: Vec<Record> = Vec::new();
+    for location in 0..in_use.locations as u8 {
+        let mut cell = record(dice, kinds::INITIAL_MEMORY, in_use);
+        cell.location = location;
+        cells.push(cell);
+    }
+    for number in 0..in_use.processors * in_use.registers {
+        let mut cell = record(dice, kinds::INITIAL_REGISTER, in_use);
+        cell.processor = (number / in_use.registers) as u8;
+        cell.register = (number % in_use.registers) as u8;
+        cells.push(cell);
+    }
+    let many = dice.pick(&[0, cells.len() / 3, cells.len()]);
+    dice.some(many, cells)
+}
+
+/// A record of that kind: what it uses is in use, the rest is zero.
+fn record(dice: &mut Dice, kind: u8, in_use: InUse) -> Record {
+    let mut record = Record {
+        kind,
+        processor: 0,
+        register: 0,
+        location: 0,
+        value: 0,
+    };
+    for &field in uses(kind).unwrap_or(&[]) {
+        let number = match field {
+            Field::Processor => dice.below(in_use.processors) as u32,
+            Field::Register => dice.below(in_use.registers) as u32,
+            Field::Location => dice.below(in_use.locations) as u32,
+            Field::Value => dice.value(),
+        };
+        record.set(field, number);
+    }
+    record
+}
+
+fn uses(kind: u8) -> Option<&'static [Field]> {
+    kinds::kind(kind).map(|kind| kind.uses)
+}
+
+fn indices<T>(of: &[T], wanted: impl Fn(&T) -> bool) -> Vec<usize> {
+    (0..of.len()).filter(|&at| wanted(&of[at])).collect()
+}
+
+/// One damage, or two, so that the order of the tests shows.
+pub fn damage(dice: &mut Dice, table: &mut Vec<u8>) {
+    for _ in 0..dice.pick(&[1, 1, 2]) {
+        let mut records = records(table);
+        match dice.below(10) {
+            0 | 1 => {
+                damage_bytes(dice, table);
+                continue;
+            }
+            2 => initial_late(dice, &mut records),
+            3 => cell_twice(dice, &mut records),
+            4 => seventeenth(dice, &mut records),
+            _ => damage_record(dice, &mut records, uses),
+        }
+        *table = bytes(&records);
+    }
+}
+
+fn initial_late(dice: &mut Dice, records: &mut Vec<Record>) {
+    let first = records.iter().position(is_instruction);
+    let late = record(dice, kinds::INITIAL_MEMORY, ALL);
+    let at = first.map_or(records.len(), |first| {
+        first + 1 + dice.below(records.len() - first)
+    });
+    records.insert(at, late);
+}
+
+fn cell_twice(dice: &mut Dice, records: &mut Vec<Record>) {
+    let kind = dice.pick(&[kinds::INITIAL_MEMORY, kinds::INITIAL_REGISTER]);
+    let given = indices(records, |record| !is_instruction(record));
+    let mut again = match dice.find(&given) {
+        Some(at) => records[at],
+        None => record(dice, kind, ALL),
+    };
+    records.insert(0, again);
+    if dice.one_in(2) {
+        again.value = dice.value();
+    }
+    records.insert(dice.below(given.len() + 2), again);
+}
+
+/// So many instructions more that a processor has seventeen.
+fn seventeenth(dice: &mut Dice, records: &mut Vec<Record>) {
+    let processor = dice.below(PROCESSORS) as u8;
+    let own = |record: &Record| is_instruction(record) && record.processor == processor;
+    let first = records
+        .iter()
+        .position(is_instruction)
+        .unwrap_or(records.len());
+    for _ in indices(records, own).len()..INSTRUCTIONS + 1 {
+        let kind = dice.pick(&ALL_KINDS);
+        let mut more = record(dice, kind, ALL);
+        more.processor = processor;
+        records.insert(first + dice.below(records.len() + 1 - first), more);
+    }
+}

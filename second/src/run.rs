@@ -1,0 +1,217 @@
+//! The machine, by its history: from the table and the steps so far it is
+//! worked out, each time anew, what waits, what memory and registers hold,
+//! who holds the lock and which program step is next.
+
+use crate::kinds::{self, Step};
+use crate::record::{processors, Record, LOCATIONS, PROCESSORS, REGISTERS};
+use crate::table::Table;
+
+/// Words of a result: all registers, then memory.
+pub const CELLS: usize = PROCESSORS * REGISTERS + LOCATIONS;
+
+#[derive(Clone, Debug)]
+pub struct Run<'t> {
+    table: &'t Table,
+    steps: Vec<Record>,
+}
+
+impl<'t> Run<'t> {
+    pub fn new(table: &'t Table) -> Run<'t> {
+        let steps = Vec::new();
+        Run { table, steps }
+    }
+
+    /// The history.
+    pub fn steps(&self) -> &[Record] {
+        &self.steps
+    }
+
+    /// The history grows; no test.
+    pub fn take(&mut self, step: Record) {
+        self.steps.push(step);
+    }
+
+    /// The last step is taken back.
+    pub fn undo(&mut self) {
+        self.steps.pop();
+    }
+
+    /// Document 01's "When a step is allowed", for a record that passes 9 and 10.
+    pub fn allowed(&self, step: Record) -> bool {
+        let processor = step.processor;
+        let next = || self.next(processor) == Some(step);
+        let empty = || self.oldest(processor).is_none();
+        let blocked = || self.holder().unwrap_or(processor) != processor;
+        match Step::of(step.kind) {
+            Some(Step::Read) => next() && !blocked(),
+            Some(Step::Write) => next(),
+            Some(Step::Drain) => !blocked() && self.oldest(processor) == Some(step),
+            Some(Step::Fence) => next() && empty(),
+            Some(Step::Lock) => next() && self.holder().is_none() && empty(),
+            Some(Step::Unlock) => next() && self.holder() == Some(processor) && empty(),
+            Some(Step::Local) => next(),
+            None => false,
+        }
+    }
+
+    /// Every step allowed now: processors in order, drain first.
+    pub fn moves(&self) -> Vec<Record> {
+        processors()
+            .flat_map(|processor| [self.oldest(processor), self.next(processor)])
+            .flatten()
+            .filter(|&step| self.allowed(step))
+            .collect()
+    }
+
+    /// k: program steps left, plus writes not yet issued, plus writes waiting.
+    pub fn left(&self) -> usize {
+        let of_one = |processor| {
+            let program_steps = self.ahead(processor).count();
+            let not_issued = self
+                .ahead(processor)
+                .filter(|(_, step)| *step == Step::Write);
+            program_steps + not_issued.count() + self.waiting_writes(processor).count()
+        };
+        processors().map(of_one).sum()
+    }
+
+    pub fn finished(&self) -> bool {
+        self.left() == 0
+    }
+
+    /// The step that "Finishing a run" takes now; none when finished.
+    pub fn finishing_step(&self) -> Option<Record> {
+        let turn = |processor| self.oldest(processor).or_else(|| self.next(processor));
+        match self.holder() {
+            Some(holder) => turn(holder),
+            None => processors().find_map(turn),
+        }
+    }
+
+    /// The processor's waiting writes, as location and value, oldest first.
+    pub fn waiting(&self, processor: u8) -> Vec<(u8, u32)> {
+        self.waiting_writes(processor)
+            .map(|write| (write.location, write.value))
+            .collect()
+    }
+
+    /// What memory holds: the last drain to the location, or the initial value.
+    pub fn memory(&self, location: u8) -> u32 {
+        let to_it = |step: &&Record| Step::Drain.is(step) && step.location == location;
+        match self.steps.iter().rev().find(to_it) {
+            Some(drain) => drain.value,
+            None => self.table.memory[usize::from(location)],
+        }
+    }
+
+    /// Who holds the lock: the last lock or unlock decides.
+    pub fn holder(&self) -> Option<u8> {
+        let either = |step: &&Record| Step::Lock.is(step) || Step::Unlock.is(step);
+        let last = self.steps.iter().rev().find(either)?;
+        if Step::Lock.is(last) {
+            Some(last.processor)
+        } else {
+            None
+        }
+    }
+
+    /// Registers, processor by processor, then memory.
+    pub fn cells(&self) -> [u32; CELLS] {
+        let registers = processors().flat_map(|processor| self.registers(processor).0);
+        let memory = (0..LOCATIONS as u8).map(|location| self.memory(location));
+        let mut cells = [0; CELLS];
+        for (cell, value) in cells.iter_mut().zip(registers.chain(memory)) {
+            *cell = value;
+        }
+        cells
+    }
+
+    /// The processor's write steps, without as many of the oldest as it has drains.
+    fn waiting_writes(&self, processor: u8) -> impl Iterator<Item = &Record> {
+        let own = move |kind: Step| {
+            let of_kind = move |step: &&Record| kind.is(step) && step.processor == processor;
+            self.steps.iter().filter(of_kind)
+        };
+        let drained = own(Step::Drain).count();
+        own(Step::Write).skip(drained)
+    }
+
+    /// The drain that the processor's oldest waiting write asks for.
+    fn oldest(&self, processor: u8) -> Option<Record> {
+        let write = self.waiting_writes(processor).next()?;
+        Some(Step::Drain.by(processor, write.location, write.value))
+    }
+
+    /// The processor's own program steps in the history.
+    fn done(&self, processor: u8) -> impl Iterator<Item = &Record> {
+        let own = move |step: &&Record| step.processor == processor && !Step::Drain.is(step);
+        self.steps.iter().filter(own)
+    }
+
+    /// The processor's whole program as program steps, each with its instruction.
+    fn program(&self, processor: u8) -> impl Iterator<Item = (Record, Step)> + 't {
+        let instructions = self.table.programs.get(usize::from(processor));
+        instructions.into_iter().flatten().flat_map(|&instruction| {
+            let kind = kinds::kind(instruction.kind).into_iter();
+            kind.flat_map(|kind| kind.steps)
+                .map(move |&step| (instruction, step))
+        })
+    }
+
+    /// The program steps that are left.
+    fn ahead(&self, processor: u8) -> impl Iterator<Item = (Record, Step)> + 't {
+        self.program(processor).skip(self.done(processor).count())
+    }
+
+    /// The processor's next program step, with the value that it must have.
+    pub fn next(&self, processor: u8) -> Option<Record> {
+        let (instruction, step) = self.ahead(processor).next()?;
+        let (location, value) = match step {
+            Step::Read => (
+                instruction.location,
+                self.seen(processor, instruction.location),
+            ),
+            Step::Write => (instruction.location, self.issued(processor, instruction)),
+            _ => (0, 0),
+        };
+        Some(step.by(processor, location, value))
+    }
+
+    /// What a read sees: the newest own waiting write to the location, or memory.
+    fn seen(&self, processor: u8, location: u8) -> u32 {
+        let to_it = |write: &&Record| write.location == location;
+        match self.waiting_writes(processor).filter(to_it).last() {
+            Some(write) => write.value,
+            None => self.memory(location),
+        }
+    }
+
+    /// The value that the instruction's write issues now.
+    fn issued(&self, processor: u8, instruction: Record) -> u32 {
+        let (registers, kept) = self.registers(processor);
+        let register = registers[usize::from(instruction.register)];
+        match instruction.kind {
+            kinds::STORE_CONSTANT => instruction.value,
+            kinds::EXCHANGE_AND_ADD | kinds::LOCKED_EXCHANGE_AND_ADD => kept.wrapping_add(register),
+            _ => register,
+        }
+    }
+
+    /// The processor's registers, and the value that its last exchange's read kept aside.
+    fn registers(&self, processor: u8) -> ([u32; REGISTERS], u32) {
+        let mut registers = self.table.registers[usize::from(processor)];
+        let mut kept = 0;
+        for (done, (instruction, step)) in self.done(processor).zip(self.program(processor)) {
+            let register = &mut registers[usize::from(instruction.register)];
+            match (step, instruction.kind) {
+                (Step::Read, kinds::LOAD) => *register = done.value,
+                (Step::Read, _) => kept = done.value,
+                (Step::Write, kinds::STORE_CONSTANT | kinds::STORE_REGISTER) => {}
+                (Step::Write, _) => *register = kept,
+                (Step::Local, _) => *register = instruction.value,
+                _ => {}
+            }
+        }
+        (registers, kept)
+    }
+}

@@ -1,0 +1,137 @@
+//! Cases and answers as text, to be looked at.
+
+use crate::case::{words, Answer, Call, Case, WORD};
+use crate::reply::{self, Reply};
+use crate::run::CELLS;
+use crate::stated::{bytes_of_steps, marks};
+use crate::text;
+
+/// The case as a text without a name. With `show_answer` after it, it can be read again.
+pub fn show(case: &Case) -> String {
+    let call = match case.call {
+        Call::Check => "check",
+        Call::Finish => "finish",
+    };
+    let room = case.room.len() / case.call.unit();
+    let mut text = format!("case\n{call} room {room}\n");
+    if case.room != marks(case.room.len()) {
+        let lines = case.room.chunks(16).map(text::hexadecimal);
+        text += &part("room", &lines.collect::<Vec<_>>().join("\n"));
+    }
+    text += &part("table", &text::table_text(&case.table));
+    text += &part("trace", &text::trace_text(&case.trace));
+    text
+}
+
+fn part(word: &str, text: &str) -> String {
+    let lines = text.lines().map(|line| format!("  {line}\n"));
+    format!("{word}\n{}", lines.collect::<String>())
+}
+
+/// The answer as a line `gives`, and below it the bytes of the room that it does not speak of and
+/// that have changed.
+pub fn show_answer(case: &Case, answer: &Answer) -> String {
+    let Reply { number, place } = answer.reply;
+    let (text, written) = match (number, case.call) {
+        (reply::DONE, Call::Check) => {
+            let cells = cells_shown(&answer.room);
+            (format!("finished {place}: {cells}"), CELLS * WORD)
+        }
+        (reply::DONE, Call::Finish) => {
+            let written = bytes_of_steps(place).unwrap_or(usize::MAX);
+            let steps = text::trace_text(answer.room.get(..written).unwrap_or(&[]));
+            let steps = steps.trim_end().replace('\n', ", ");
+            (format!("written {place}: {steps}"), written)
+        }
+        _ => (format!("refused {number} at {place}"), 0),
+    };
+    let changes = changes(&case.room, &answer.room, written);
+    format!("gives {}\n{changes}", text.trim_end_matches(": "))
+}
+
+fn cells_shown(room: &[u8]) -> String {
+    let cells = words(room).into_iter().take(CELLS).enumerate();
+    let not_zero = cells.filter(|&(_, value)| value != 0);
+    let named = not_zero.map(|(cell, value)| text::cell_text(cell, value));
+    named.collect::<Vec<_>>().join(", ")
+}
+
+/// The changes from a byte of the room on; all of them, if the room does not reach so far.
+fn changes(before: &[u8], after: &[u8], from: usize) -> String {
+    let from = if from > after.len() { 0 } else { from };
+    let mut text = String::new();
+    let mut rest = from..before.len().min(after.len());
+    while let Some(first) = rest.find(|&at| before[at] != after[at]) {
+        let end = rest.find(|&at| before[at] == after[at]).unwrap_or(rest.end);
+        let last = end - 1;
+        let (before, after) = (&before[first..end], &after[first..end]);
+        let (before, after) = (text::hexadecimal(before), text::hexadecimal(after));
+        text += &format!("# but bytes {first} to {last} of the room are {after}, not {before}\n");
+    }
+    text
+}
+
+#[cfg(test)]
+mod tests {
+    use super::*;
+    use crate::stated::read_cases;
+
+    const FILE: &str = "
+case
+check room 25
+table
+  p0 store x 1
+  p0 load EAX y
+trace
+  W0 x1, R0 y0, D0 x1
+gives finished 3: x 1, p3 EDX 7
+case
+finish room 17
+room
+  01 02 03 04 05 06 07 08 09 0a 0b 0c 0d 0e 0f 10 11
+table
+  p0 store x 1
+trace
+gives written 2: W0 x1, D0 x1
+case
+finish room 2
+table
+trace
+  F0
+gives refused 11 at 0
+";
+
+    #[test]
+    fn what_is_shown_can_be_read() {
+        for stated in read_cases(FILE).unwrap() {
+            let text = show(&stated.case) + &show_answer(&stated.case, &stated.gives);
+            let again = &read_cases(&text).unwrap()[0];
+            assert_eq!(
+                (&again.case, &again.gives),
+                (&stated.case, &stated.gives),
+                "{text}"
+            );
+        }
+    }
+
+    #[test]
+    fn an_odd_answer_is_shown() {
+        let cases = read_cases(FILE).unwrap();
+        let (case, mut answer) = (&cases[0].case, cases[0].gives.clone());
+        answer.room[96] = 0;
+        let found = show_answer(case, &answer);
+        let but = "# but bytes 96 to 96 of the room are 00, not ab\n";
+        assert_eq!(found, format!("gives finished 3: p3 EDX 7, x 1\n{but}"));
+        answer.reply = Reply::new(reply::STEP_NOT_ALLOWED, 2);
+        assert!(
+            show_answer(case, &answer).starts_with("gives refused 11 at 2\n# but bytes 0 to 96")
+        );
+        answer.reply = Reply {
+            number: reply::DONE,
+            place: u64::MAX,
+        };
+        assert!(
+            show_answer(&cases[1].case, &answer).contains("18446744073709551615\n# but bytes 0 to")
+        );
+    }
+}
