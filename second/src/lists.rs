@@ -43,7 +43,7 @@ fn fill(folder: &Path, seed: u64, number: u64) -> io::Result<()> {
     fs::create_dir_all(folder)?;
     let dice = &mut Dice::new(!seed, number);
     let case = generate::case(seed, number);
-    let odd = dice.pick(&["table.rec", "trace.rec", "none", "none", "none"]);
+    let odd = dice.pick(&["table.rec", "trace.rec", "neither", "neither", "neither"]);
     let how = dice.below(4);
     for (name, mut bytes) in [("table.rec", case.table), ("trace.rec", case.trace)] {
         let path = folder.join(name);

@@ -56,16 +56,22 @@ struct Looks {
     waits: bool,
 }
 
-/// Those after a run's steps.
+/// Those after a run's steps, and those after a lock that could be taken next.
 fn temptations(run: &mut Run, place: usize) -> Vec<(Looks, Tempting)> {
-    let mut found = Vec::new();
-    let locks = run.moves().into_iter().filter(|step| Step::Lock.is(step));
-    for lock in locks.map(Some).chain([None]) {
-        lock.into_iter().for_each(|lock| run.take(lock));
+    let after = |run: &Run, lock: Option<Record>| {
         let tempting = |(looks, step)| (looks, Tempting { place, lock, step });
-        found.extend(not_allowed(run).into_iter().map(tempting));
-        lock.into_iter().for_each(|_| run.undo());
+        not_allowed(run)
+            .into_iter()
+            .map(tempting)
+            .collect::<Vec<_>>()
+    };
+    let mut found = Vec::new();
+    for lock in run.moves().into_iter().filter(|step| Step::Lock.is(step)) {
+        run.take(lock);
+        found.extend(after(run, Some(lock)));
+        run.undo();
     }
+    found.extend(after(run, None));
     found
 }
 
