@@ -1,40 +1,71 @@
 -- The reply to a call, from where the trace leads.
-use mathlib.Core.Path.{_≡_, sym, ap, _∙_}
+use mathlib.Core.Path.{_≡_, refl, sym, ap, _∙_}
+use mathlib.Core.Bool.{Bool, true, false}
 use mathlib.Core.List.{List}
-use Prim.Native.Nat.{ℕ, _/_}
-use lib.ListN.{length}
+use Prim.Native.Nat.{ℕ, _/_, _≤_}
+use native.Mathlib.Omega.{arith}
+use lib.ListN.{length, set, drop, replicate, length-drop}
+use lib.Seq.{take-all}
+use lib.Dec.{ltb, lit≤}
+use borrow.Author.Tests.{ltb-true, ltb-false}
 use Rattle.model.specs.declared.answer.Refusal.{Refusal}
 use Rattle.model.specs.declared.answer.Verdict.{Verdict}
 use Rattle.model.specs.declared.answer.Verdict.the-variants.{Passed, Refused}
-use Rattle.model.specs.declared.table.Program.{Program}
+use Rattle.model.specs.Sizes.{resultWords}
 use Rattle.model.specs.Record.{records}
 use Rattle.model.specs.Machine as model
 use Rattle.model.specs.Reply.{Reply, refuse, numberOf}
 use Rattle.model.specs.Calls.{tried, replied, reported, checkedAt, checked, completedAt, completed}
-use Rattle.model.specs.Code.{testedOf}
+use Rattle.model.specs.Code.{Columns, testedOf}
 use Rattle.model.proofs.Bytes.{length-records}
+use Rattle.model.proofs.Rows.{slices}
 use Rattle.model.proofs.Runs.{reached-orderly}
 use Rattle.model.proofs.Numbers.{tried-follows}
-use Rattle.machine.specs.declared.state.Machine.{Machine}
+use Rattle.rules.specs.Guards.{nobody}
+use Rattle.machine_state.specs.State.{State}
+use Rattle.machine_state.specs.Packed.{stateIn, columnsIn}
 use Rattle.machine.specs.View.{machineOf}
+use Rattle.machine.specs.Arrays.{startIn}
 use Rattle.machine.specs.Ready.{Ready}
 use Rattle.machine.proofs.Ends.{finished-is, words-are}
-use Rattle.moves.specs.Finishing.{Underway}
-use Rattle.reporting.specs.Reports.{reportedIn}
-use Rattle.trying.specs.Tries.{Tries}
+use Rattle.table.specs.Reads.{noProgram, noCells}
+use Rattle.finish_step.specs.Finishing.{Underway}
+use Rattle.checker_report.specs.Reports.{reportedIn}
+use Rattle.checker_try.specs.Tries.{Tries}
 
--- ---- what is reported, by the arrays that g and m have: it is the machine's
+-- ---- all zero, and the lock free
 
-abbrev reportedOf : Program → Machine → ℕ → List ℕ → Reply
-reportedOf g m steps room = reportedIn (g .counts) (m .registers) (m .memory) (m .at) (m .issued) (m .drained) steps room
+pub no-program : columnsIn (replicate 196 0) (replicate 64 0) ≡ noProgram
+unfolding columnsIn
+no-program = refl
 
-reported-is : (g : Program) (m : Machine) → Ready g m → (steps : ℕ) (room : List ℕ) → reportedOf g m steps room ≡ reported steps room (machineOf g m)
-unfolding reportedIn reported
-reported-is g m ready steps room = rw (sym (finished-is g m ready), words-are g m ready)
+pub at-start : stateIn (replicate 28 0) (replicate 64 0) (replicate 64 0) (set (replicate 20 0) 0 nobody) ≡ startIn noCells
+unfolding stateIn
+at-start = refl
+
+-- ---- what is reported of a ready state: it is the machine's
+
+module _ (codes constants cells locations values marks : List ℕ) (ready : Ready (columnsIn codes constants) (stateIn cells locations values marks)) where
+  -- the kept values stand behind the result
+  pub cells-long : resultWords ≤ length cells
+  unfolding stateIn
+  cells-long = go (ltb (length cells) resultWords) refl
+    where
+      go : (b : Bool) → ltb (length cells) resultWords ≡ b → resultWords ≤ length cells
+      go true e =
+          let l = ltb-true (length cells) resultWords e in
+          let k : length (drop 24 cells) ≡ 4 = ap (λ (m : List ℕ). length (drop 24 m)) (sym (take-all 28 cells (omega arith))) ∙ ready .long .kept in
+          let d = length-drop 24 cells in
+          absurd (omega arith)
+      go false e = ltb-false (length cells) resultWords e
+
+  pub reported-is : (steps : ℕ) (room : List ℕ) → reportedIn codes cells marks steps room ≡ reported steps room (machineOf (columnsIn codes constants) (stateIn cells locations values marks))
+  unfolding reportedIn reported stateIn columnsIn
+  reported-is steps room = rw (sym (finished-is _ _ ready), words-are _ _ ready, slices 16 24 cells (lit≤ tt))
 
 -- ---- the whole call, which replies with f where the trace leads
 
-module _ (table trace room : List ℕ) (v : Verdict) (g : Program) (m : Machine) (tries : Tries table trace v g m) where
+module _ (table trace room : List ℕ) (v : Verdict) (g : Columns) (m : State) (tries : Tries table trace v g m) where
   abbrev reached : model.Machine
   reached = machineOf g m
 
@@ -50,9 +81,9 @@ module _ (table trace room : List ℕ) (v : Verdict) (g : Program) (m : Machine)
   replies f e r q = q ∙ rw (leads Passed e)
 
   -- checking
-  pub checks : v ≡ Passed → (r : Reply) → r ≡ reportedOf g m (length trace / 8) room → r ≡ checked table trace room
+  pub checks : v ≡ Passed → (r : Reply) → r ≡ reported (length trace / 8) room reached → r ≡ checked table trace room
   unfolding checked checkedAt
-  checks e r q = replies (checkedAt trace room) e r (q ∙ reported-is g m (tries .ready) (length trace / 8) room ∙ rw (length-records trace))
+  checks e r q = replies (checkedAt trace room) e r (q ∙ rw (length-records trace))
 
   -- finishing: from a state that a run reaches
   pub underway : v ≡ Passed → Underway g m

@@ -10,5 +10,5 @@ pub fn check(table: &[u8], trace: &[u8], room: &mut [u32]) -> Answer
     ensures { λ r. ⌜ replyOf r (now (room .exit)) ≡ checked (now (table .entry)) (now (trace .entry)) (now (room .entry)) ⌝ }
 {
     let mut records = [0u8; 0];
-    call::answer(table, trace, false, room, &mut records)
+    call::answer(table, trace, room, &mut records, false)
 }

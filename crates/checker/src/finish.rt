@@ -10,5 +10,5 @@ pub fn finish(table: &[u8], trace: &[u8], room: &mut [u8]) -> Answer
     ensures { λ r. ⌜ replyOf r (now (room .exit)) ≡ completed (now (table .entry)) (now (trace .entry)) (now (room .entry)) ⌝ }
 {
     let mut words = [0u32; 0];
-    call::answer(table, trace, true, &mut words, room)
+    call::answer(table, trace, &mut words, room, true)
 }

@@ -6,41 +6,38 @@ use Prim.Native.Nat.{ℕ, _+_, _-_, _<_}
 use lib.ListN.{length, getD, drop, set}
 use lib.Seq.{slice, getD-set-same, getD-set-other}
 use Rattle.model.specs.declared.record.Record.{Record}
-use Rattle.model.specs.declared.table.Program.{Program}
 use Rattle.model.specs.Sizes.{processors, registersEach, instructionsEach}
 use Rattle.model.specs.Program.{ProgramStep}
 use Rattle.model.specs.Machine.{Processor, WaitingWrite, writeOf, idle, processor, advanced, assigned, drained}
 use Rattle.model.specs.Rules.{Event}
-use Rattle.model.specs.Code.{placeAt, row, stepsFrom, countIn}
+use Rattle.model.specs.Code.{Columns, placeAt, row, stepsFrom, countIn}
 use Rattle.model.proofs.Rows.{row-set, row-set-other, four-get, four-set}
-use Rattle.machine.specs.declared.state.Machine.{Machine}
 use Rattle.rules.specs.Offers.{writesIn}
 use Rattle.machine.specs.View.{waitingIn, todoIn, processorOf, holderOf, machineOf}
-use Rattle.machine.specs.Arrays.{parts}
-use Rattle.store.specs.Stores.{isLast, nextAt}
-use Rattle.machine.specs.Stores.{assignedIn, advancedIn, drainedIn, heldIn}
+use Rattle.machine.specs.Stores.{isLast, nextAt, assignedIn, advancedIn, drainedIn, heldIn}
 use Rattle.machine.specs.Ready.{Own, Long}
 use Rattle.machine.proofs.Logs.{pushedIn, Bounds, pushed-own, pushed-other, newerIn}
+use Rattle.machine_state.specs.State.{State, parts}
 
 -- from m to n processor p becomes what F makes of it, and no other changes
-pub record Changes (g : Program) (m n : Machine) (p : ℕ) (F : Processor → Processor) : Type 0 where
+pub record Changes (g : Columns) (m n : State) (p : ℕ) (F : Processor → Processor) : Type 0 where
   pub own : processorOf g n p ≡ F (processorOf g m p)
   pub others : (q : ℕ) → q < processors → ¬ (q ≡ p) → processorOf g n q ≡ processorOf g m q
 
-module _ (g : Program) where
-  pub same-processors : (m : Machine) (p holder : ℕ) → Changes g m (heldIn m holder) p (λ P. P)
+module _ (g : Columns) where
+  pub same-processors : (m : State) (p holder : ℕ) → Changes g m (heldIn m holder) p (λ P. P)
   unfolding processorOf todoIn waitingIn
   same-processors m p holder = record { own = refl; others = λ q h n. refl }
 
-  pub then : {m n o : Machine} {p : ℕ} {F G : Processor → Processor} → Changes g m n p F → Changes g n o p G → Changes g m o p (λ P. G (F P))
+  pub then : {m n o : State} {p : ℕ} {F G : Processor → Processor} → Changes g m n p F → Changes g n o p G → Changes g m o p (λ P. G (F P))
   then {G = G} a b = record { own = b .own ∙ ap G (a .own); others = λ q h n. b .others q h n ∙ a .others q h n }
 
-  pub processor-is : (m : Machine) (p : ℕ) → p < processors → processor (machineOf g m) p ≡ processorOf g m p
+  pub processor-is : (m : State) (p : ℕ) → p < processors → processor (machineOf g m) p ≡ processorOf g m p
   unfolding processor machineOf
   processor-is m p h = four-get (processorOf g m) idle p h
 
   -- the whole machine
-  pub machine-is : (m n : Machine) (p : ℕ) (F : Processor → Processor) → p < processors → Changes g m n p F
+  pub machine-is : (m n : State) (p : ℕ) (F : Processor → Processor) → p < processors → Changes g m n p F
       → machineOf g n ≡ record { processors = set (machineOf g m .processors) p (F (processor (machineOf g m) p)); memory = n .memory; holder = holderOf (n .holder) }
   unfolding machineOf
   machine-is m n p F h c =
@@ -52,7 +49,7 @@ module _ (g : Program) where
   abbrev pub withRegister : ℕ → ℕ → Processor → Processor
   withRegister r v P = assigned P (P .todo) r v
 
-  pub assigned-changes : (m : Machine) (i : Record) (v : ℕ) → Own i → Changes g m (assignedIn m i v) (i .processor) (withRegister (i .register) v)
+  pub assigned-changes : (m : State) (i : Record) (v : ℕ) → Own i → Changes g m (assignedIn m i v) (i .processor) (withRegister (i .register) v)
   unfolding processorOf todoIn waitingIn assigned
   assigned-changes m i v o = record {
     own = λ j. record {
@@ -71,13 +68,13 @@ module _ (g : Program) where
 
   -- ---- a value kept aside
 
-  abbrev pub asideIn : Machine → ℕ → ℕ → Machine
+  abbrev pub asideIn : State → ℕ → ℕ → State
   asideIn m p v = parts (m .registers) (m .memory) (set (m .kept) p v) (m .at) (m .phase) (m .locations) (m .values) (m .issued) (m .drained) (m .holder)
 
   abbrev pub withKept : ℕ → Processor → Processor
   withKept v P = record { todo = P .todo; kept = v; registers = P .registers; waiting = P .waiting }
 
-  pub kept-changes : (m : Machine) (p v : ℕ) → p < processors → Long m → Changes g m (asideIn m p v) p (withKept v)
+  pub kept-changes : (m : State) (p v : ℕ) → p < processors → Long m → Changes g m (asideIn m p v) p (withKept v)
   unfolding processorOf todoIn waitingIn
   kept-changes m p v h l = record {
     own = λ j. record {
@@ -99,7 +96,7 @@ module _ (g : Program) where
   abbrev pub withWrite : WaitingWrite → Processor → Processor
   withWrite w P = record { todo = P .todo; kept = P .kept; registers = P .registers; waiting = P .waiting ++ (w ∷ []) }
 
-  pub pushed-changes : (m : Machine) (p x v : ℕ) → p < processors → Long m → ((q : ℕ) → q < processors → Bounds m q) → getD (m .issued) p 0 < instructionsEach
+  pub pushed-changes : (m : State) (p x v : ℕ) → p < processors → Long m → ((q : ℕ) → q < processors → Bounds m q) → getD (m .issued) p 0 < instructionsEach
       → Changes g m (pushedIn m p x v) p (withWrite (writeOf x v))
   unfolding processorOf todoIn
   pushed-changes m p x v h l b r = record {
@@ -119,7 +116,7 @@ module _ (g : Program) where
 
   -- ---- the oldest write drained
 
-  pub drained-changes : (m : Machine) (e : Event) → e .processor < processors → Long m
+  pub drained-changes : (m : State) (e : Event) → e .processor < processors → Long m
       → Changes g m (drainedIn m e) (e .processor) (λ P. drained P (newerIn m (e .processor)))
   unfolding processorOf todoIn waitingIn drained
   drained-changes m e h l =
@@ -163,7 +160,7 @@ module _ (g : Program) where
       go true = getD-set-other at (i .processor) q (getD at (i .processor) 0 + 1) 0 n
       go false = refl
 
-  pub advanced-changes : (m : Machine) (i : Record) (rest : List ProgramStep) → todoIn g (advancedIn m i) (i .processor) ≡ rest
+  pub advanced-changes : (m : State) (i : Record) (rest : List ProgramStep) → todoIn g (advancedIn m i) (i .processor) ≡ rest
       → Changes g m (advancedIn m i) (i .processor) (λ P. advanced P rest)
   unfolding processorOf waitingIn todoIn advanced
   advanced-changes m i rest e = record {

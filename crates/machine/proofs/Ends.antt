@@ -7,21 +7,20 @@ use native.Mathlib.Omega.{arith}
 use lib.ListN.{getD}
 use lib.Dec.{eqb, lit<}
 use borrow.Author.Tests.{eqb-true, eqb-false}
-use Rattle.model.specs.declared.table.Program.{Program}
 use Rattle.model.specs.Sizes.{processors}
 use Rattle.model.specs.Step.{isEmpty}
 use Rattle.model.specs.Reply.{registersIn, words}
 use Rattle.model.specs.Finish.{isDone, areDone, isFinished}
-use Rattle.model.specs.Code.{countIn}
+use Rattle.model.specs.Code.{Columns, countIn}
 use Rattle.model.proofs.Rows.{rows-whole}
-use Rattle.finished.specs.Finished.{doneAt, finishedIn}
-use Rattle.machine.specs.declared.state.Machine.{Machine}
+use Rattle.machine_finished.specs.Finished.{doneAt, finishedIn}
 use Rattle.machine.specs.View.{todoIn, processorOf, machineOf}
 use Rattle.machine.specs.Ready.{ReadyAt, Ready}
 use Rattle.machine.proofs.Todo.{none-left, next-left}
 use Rattle.machine.proofs.Logs.{waits-none}
+use Rattle.machine_state.specs.State.{State}
 
-module _ (g : Program) (m : Machine) (ready : Ready g m) where
+module _ (g : Columns) (m : State) (ready : Ready g m) where
   abbrev done : ℕ → Bool
   done p = doneAt (m .at) (g .counts) (m .drained) (m .issued) p
 

@@ -9,27 +9,25 @@ use lib.Seq.{getD-set-same, getD-set-other}
 use lib.Dec.{eqb, leb}
 use borrow.Author.Tests.{eqb-true, eqb-false}
 use Rattle.model.specs.declared.record.Record.{Record}
-use Rattle.model.specs.declared.table.Program.{Program}
 use Rattle.model.specs.Program.{ProgramStep}
 use Rattle.model.specs.Sizes.{processors, locations}
 use Rattle.model.specs.Left.{writes}
-use Rattle.model.specs.Code.{instructionAt, countIn}
+use Rattle.model.specs.Code.{Columns, instructionAt, countIn}
 use Rattle.model.proofs.Lists.{each}
-use Rattle.machine.specs.declared.state.Machine.{Machine}
 use Rattle.machine.specs.View.{todoIn}
 use Rattle.rules.specs.Steps.{stepKind, stepCount}
 use Rattle.machine.specs.Arrays.{nextOf}
 use Rattle.rules.specs.Offers.{nextIn}
-use Rattle.store.specs.Stores.{nextPlace, isLast, nextAt, nextPhase}
-use Rattle.machine.specs.Stores.{advancedIn, assignedIn, heldIn, carriedOut}
+use Rattle.machine.specs.Stores.{nextPlace, isLast, nextAt, nextPhase, advancedIn, assignedIn, heldIn, carriedOut}
 use Rattle.machine.specs.Ready.{Long, Stands, ReadyAt, Ready}
 use Rattle.rules.specs.Programs.{Fetched}
 use Rattle.machine.proofs.Todo.{stepFor, by-kind, stands-next}
 use Rattle.machine.proofs.Changes.{at-next, at-other}
 use Rattle.machine.proofs.Sim.{is-instruction, rest, todo-next, goes-on}
 use Rattle.machine.proofs.Lengths.{set-long, either-long, stored-long, advanced-long}
+use Rattle.machine_state.specs.State.{State}
 
-module _ (g : Program) (m : Machine) (ready : Ready g m) (i : Record) (here : Fetched g (i .processor) (getD (m .at) (i .processor) 0) i) (h : i .processor < processors) where
+module _ (g : Columns) (m : State) (ready : Ready g m) (i : Record) (here : Fetched g (i .processor) (getD (m .at) (i .processor) 0) i) (h : i .processor < processors) where
   abbrev p : ℕ
   p = i .processor
 
@@ -50,7 +48,7 @@ module _ (g : Program) (m : Machine) (ready : Ready g m) (i : Record) (here : Fe
     left = rest g m ready i here h l
 
     -- the state c before the program goes on
-    pub record Carried (c : Machine) : Type 0 where
+    pub record Carried (c : State) : Type 0 where
       pub at : c .at ≡ m .at
       pub phase : c .phase ≡ m .phase
       pub drained : c .drained ≡ m .drained
@@ -60,7 +58,7 @@ module _ (g : Program) (m : Machine) (ready : Ready g m) (i : Record) (here : Fe
       pub more : n ≤ getD (c .issued) p 0
       pub room : getD (c .issued) p 0 + writes left ≡ n + writes (todoIn g m p)
 
-    still : (c : Machine) → c .at ≡ m .at → c .phase ≡ m .phase → c .drained ≡ m .drained → Long c → c .locations ≡ m .locations → c .issued ≡ m .issued → writes (todoIn g m p) ≡ writes left → Carried c
+    still : (c : State) → c .at ≡ m .at → c .phase ≡ m .phase → c .drained ≡ m .drained → Long c → c .locations ≡ m .locations → c .issued ≡ m .issued → writes (todoIn g m p) ≡ writes left → Carried c
     still c ea ef ed lc ex en w = record {
       at = ea;
       phase = ef;
@@ -79,7 +77,9 @@ module _ (g : Program) (m : Machine) (ready : Ready g m) (i : Record) (here : Fe
     unfolding carriedOut nextIn writes
     carries-read e =
         still _ refl refl refl
-        (stored-long m (ready .long) _ _ _ _ _ _ (either-long (eqb (i .kind) 5) _ _ 16 (set-long (m .registers) _ _ 16 (ready .long .registers)) (ready .long .registers)) (either-long (eqb (i .kind) 5) _ _ 4 (ready .long .kept) (set-long (m .kept) _ _ 4 (ready .long .kept))) (ready .long .logLocations) (ready .long .logValues) (ready .long .issued))
+        (stored-long m (ready .long) _ _ _ _ _ _ (either-long (eqb (i .kind) 5) _ _ 16 (set-long (m .registers) _ _ 16 (ready .long .registers)) (ready .long .registers))
+        (either-long (eqb (i .kind) 5) _ _ 4 (ready .long .kept) (set-long (m .kept) _ _ 4 (ready .long .kept)))
+        (ready .long .logLocations) (ready .long .logValues) (ready .long .issued))
         refl refl (ap writes e)
 
     carries-write : Carries 2
@@ -91,7 +91,9 @@ module _ (g : Program) (m : Machine) (ready : Ready g m) (i : Record) (here : Fe
           at = refl;
           phase = refl;
           drained = refl;
-          long = stored-long m (ready .long) _ _ _ _ _ _ (either-long (leb 8 (i .kind)) _ _ 16 (set-long (m .registers) _ _ 16 (ready .long .registers)) (ready .long .registers)) (ready .long .kept) (set-long (m .locations) _ _ 64 (ready .long .logLocations)) (set-long (m .values) _ _ 64 (ready .long .logValues)) (set-long (m .issued) _ _ 4 (ready .long .issued));
+          long =
+              stored-long m (ready .long) _ _ _ _ _ _ (either-long (leb 8 (i .kind)) _ _ 16 (set-long (m .registers) _ _ 16 (ready .long .registers)) (ready .long .registers))
+              (ready .long .kept) (set-long (m .locations) _ _ 64 (ready .long .logLocations)) (set-long (m .values) _ _ 64 (ready .long .logValues)) (set-long (m .issued) _ _ 4 (ready .long .issued));
           inLog = each 0 (λ k x. x < locations) (m .locations) (nextPlace (m .issued) p) (i .location) (ready .inLog) (here .location);
           others = λ q x. getD-set-other (m .issued) p q (n + 1) 0 x;
           more = rw own (omega arith);
@@ -127,7 +129,7 @@ module _ (g : Program) (m : Machine) (ready : Ready g m) (i : Record) (here : Fe
 
     -- ---- and the program goes on
 
-    module _ (c : Machine) (k : Carried c) where
+    module _ (c : State) (k : Carried c) where
       abbrev last : Bool
       last = isLast (m .phase) (i .kind) p
 

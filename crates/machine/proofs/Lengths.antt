@@ -7,11 +7,9 @@ use lib.ListN.{length, set, length-set}
 use Rattle.model.specs.declared.record.Record.{Record}
 use Rattle.model.specs.Sizes.{processors, registersEach, locations, instructionsEach}
 use Rattle.model.specs.Rules.{Event}
-use Rattle.machine.specs.declared.state.Machine.{Machine}
-use Rattle.machine.specs.Arrays.{parts}
-use Rattle.store.specs.Stores.{isLast}
-use Rattle.machine.specs.Stores.{advancedIn, drainedIn}
+use Rattle.machine.specs.Stores.{isLast, advancedIn, drainedIn}
 use Rattle.machine.specs.Ready.{Long}
+use Rattle.machine_state.specs.State.{State, parts}
 
 pub set-long : (xs : List ℕ) (k x n : ℕ) → length xs ≡ n → length (set xs k x) ≡ n
 set-long xs k x n h = length-set xs k x ∙ h
@@ -20,7 +18,7 @@ pub either-long : (b : Bool) (xs ys : List ℕ) (n : ℕ) → length xs ≡ n �
 either-long true xs ys n h k = h
 either-long false xs ys n h k = k
 
-module _ (m : Machine) (l : Long m) where
+module _ (m : State) (l : Long m) where
   pub stored-long : (registers kept locations values issued : List ℕ) (holder : ℕ) → length registers ≡ processors * registersEach → length kept ≡ processors
       → length locations ≡ processors * instructionsEach → length values ≡ processors * instructionsEach → length issued ≡ processors
       → Long (parts registers (m .memory) kept (m .at) (m .phase) locations values issued (m .drained) holder)

@@ -11,6 +11,9 @@ pub mod Lengths
 pub mod Keeps
 pub mod Taken
 -- ---- the code's functions
+pub mod Propers
+pub mod Stored
+pub mod Standing
 pub mod Nexts
 pub mod Taking
 pub mod Starts

@@ -13,24 +13,23 @@ use Rattle.model.specs.Sizes.{processors, instructionsEach}
 use Rattle.model.specs.Machine.{WaitingWrite, writeOf, drained}
 use Rattle.model.specs.Step.{isEmpty}
 use Rattle.model.proofs.Rows.{part-set-other}
-use Rattle.machine.specs.declared.state.Machine.{Machine}
 use Rattle.rules.specs.Offers.{writesIn}
 use Rattle.machine.specs.View.{waitingIn}
-use Rattle.machine.specs.Arrays.{parts}
-use Rattle.store.specs.Stores.{nextPlace}
 use Rattle.machine.specs.Ready.{Long}
 use Rattle.rules.proofs.Lookup.{part-none, part-some, part-more}
+use Rattle.machine_state.specs.State.{State, parts}
+use Rattle.machine.specs.Stores.{nextPlace}
 
-abbrev pub pushedIn : Machine → ℕ → ℕ → ℕ → Machine
+abbrev pub pushedIn : State → ℕ → ℕ → ℕ → State
 pushedIn m p x v =
     parts (m .registers) (m .memory) (m .kept) (m .at) (m .phase) (set (m .locations) (nextPlace (m .issued) p) x) (set (m .values) (nextPlace (m .issued) p) v)
     (set (m .issued) p (getD (m .issued) p 0 + 1)) (m .drained) (m .holder)
 
 -- the waiting writes alone; those of q wait between its two numbers
-abbrev pub Bounds : Machine → ℕ → Type 0
+abbrev pub Bounds : State → ℕ → Type 0
 Bounds m q = (getD (m .drained) q 0 ≤ getD (m .issued) q 0) × (getD (m .issued) q 0 ≤ instructionsEach)
 
-pub pushed-own : (m : Machine) (p x v : ℕ) → p < processors → Long m → getD (m .drained) p 0 ≤ getD (m .issued) p 0 → getD (m .issued) p 0 < instructionsEach
+pub pushed-own : (m : State) (p x v : ℕ) → p < processors → Long m → getD (m .drained) p 0 ≤ getD (m .issued) p 0 → getD (m .issued) p 0 < instructionsEach
     → waitingIn (pushedIn m p x v) p ≡ waitingIn m p ++ (writeOf x v ∷ [])
 unfolding waitingIn
 pushed-own m p x v h l o r =
@@ -40,7 +39,7 @@ pushed-own m p x v h l o r =
     let s : placeAt p (n + 1) ≡ suc (placeAt p n) = omega arith in
     rw (e, s) (part-more (placeAt p d) (placeAt p n) (m .locations) (m .values) (l .logLocations ∙ sym (l .logValues)) x v (omega arith) (rw (l .logLocations) (omega arith)))
 
-pub pushed-other : (m : Machine) (p q x v : ℕ) → getD (m .issued) p 0 < instructionsEach → ¬ (q ≡ p) → Bounds m q → waitingIn (pushedIn m p x v) q ≡ waitingIn m q
+pub pushed-other : (m : State) (p q x v : ℕ) → getD (m .issued) p 0 < instructionsEach → ¬ (q ≡ p) → Bounds m q → waitingIn (pushedIn m p x v) q ≡ waitingIn m q
 unfolding waitingIn
 pushed-other m p q x v r n b =
     let o = b .0 in
@@ -52,14 +51,14 @@ pushed-other m p q x v r n b =
     )
 
 -- what waits behind the oldest
-abbrev pub newerIn : Machine → ℕ → List WaitingWrite
+abbrev pub newerIn : State → ℕ → List WaitingWrite
 newerIn m p = let d = getD (m .drained) p 0 in let n = getD (m .issued) p 0 in writesIn (slice (placeAt p (d + 1)) (placeAt p n) (m .locations)) (slice (placeAt p (d + 1)) (placeAt p n) (m .values))
 
-pub none-waits : (m : Machine) (p : ℕ) → getD (m .drained) p 0 ≡ getD (m .issued) p 0 → waitingIn m p ≡ []
+pub none-waits : (m : State) (p : ℕ) → getD (m .drained) p 0 ≡ getD (m .issued) p 0 → waitingIn m p ≡ []
 unfolding waitingIn
 none-waits m p e = rw e (part-none (placeAt p (getD (m .issued) p 0)) (m .locations) (m .values))
 
-pub some-wait : (m : Machine) (p : ℕ) → p < processors → Long m → getD (m .drained) p 0 < getD (m .issued) p 0 → getD (m .issued) p 0 ≤ instructionsEach
+pub some-wait : (m : State) (p : ℕ) → p < processors → Long m → getD (m .drained) p 0 < getD (m .issued) p 0 → getD (m .issued) p 0 ≤ instructionsEach
     → waitingIn m p ≡ writeOf (getD (m .locations) (placeAt p (getD (m .drained) p 0)) 0) (getD (m .values) (placeAt p (getD (m .drained) p 0)) 0) ∷ newerIn m p
 unfolding waitingIn
 some-wait m p h l o r =
@@ -69,7 +68,7 @@ some-wait m p h l o r =
     rw s (part-some (placeAt p d) (placeAt p n) (m .locations) (m .values) (l .logLocations ∙ sym (l .logValues)) (omega arith) (rw (l .logLocations) (omega arith)))
 
 -- whether any waits
-pub waits-none : (m : Machine) (p : ℕ) → p < processors → Long m → getD (m .drained) p 0 ≤ getD (m .issued) p 0 → getD (m .issued) p 0 ≤ instructionsEach
+pub waits-none : (m : State) (p : ℕ) → p < processors → Long m → getD (m .drained) p 0 ≤ getD (m .issued) p 0 → getD (m .issued) p 0 ≤ instructionsEach
     → isEmpty (waitingIn m p) ≡ eqb (getD (m .drained) p 0) (getD (m .issued) p 0)
 unfolding isEmpty
 waits-none m p h l o few = go (eqb (getD (m .drained) p 0) (getD (m .issued) p 0)) refl

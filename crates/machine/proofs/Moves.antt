@@ -8,9 +8,8 @@ use native.Mathlib.Omega.{arith}
 use lib.ListN.{getD, set}
 use lib.Dec.{eqb, leb}
 use borrow.Author.Tests.{eqb-true, eqb-false}
-use Rattle.model.specs.Code.{placeAt, registerOf}
+use Rattle.model.specs.Code.{Columns, placeAt, registerOf}
 use Rattle.model.specs.declared.record.Record.{Record}
-use Rattle.model.specs.declared.table.Program.{Program}
 use Rattle.model.specs.Sizes.{processors, registersEach, instructionsEach}
 use Rattle.model.specs.Program.{ProgramStep, write, into, aside, constant, register, swapped, added}
 use Rattle.model.specs.Kinds.{tableRows}
@@ -20,10 +19,9 @@ use Rattle.model.specs.Rules.{Event, event, R, W, F, L, U, N}
 use Rattle.model.specs.Step.{Move, move, drainMove, nextMove, newest, seen, isEmpty}
 use Rattle.model.specs.Left.{writes}
 use Rattle.model.proofs.Rows.{slice-get}
-use Rattle.machine.specs.declared.state.Machine.{Machine}
 use Rattle.machine.specs.View.{waitingIn, todoIn, processorOf, holderOf, machineOf}
 use Rattle.rules.specs.Steps.{stepKind, stepCount}
-use Rattle.machine.specs.Arrays.{parts, isDry, oldestOf, nextOf}
+use Rattle.machine.specs.Arrays.{isDry, oldestOf, nextOf}
 use Rattle.rules.specs.Offers.{oldestIn, nextIn}
 use Rattle.rules.specs.Guards.{notBlockedIn, permits, issuedBy}
 use Rattle.machine.specs.Stores.{advancedIn, drainedIn, assignedIn, heldIn, afterEvent}
@@ -32,12 +30,13 @@ use Rattle.machine.proofs.Todo.{targetOf, sourceOf, stepFor, issues, by
 use Rattle.machine.proofs.Logs.{pushedIn, newerIn, none-waits, some-wait, waits-none}
 use Rattle.machine.proofs.Changes.{Changes, same-processors, then, processor-is, machine-is, withRegister, assigned-changes, asideIn, withKept, kept-changes, withWrite, pushed-changes, drained-changes, advanced-changes}
 use Rattle.machine.proofs.Locks.{not-blocked, is-free, holds-is, held-by}
+use Rattle.machine_state.specs.State.{State, parts}
 
 -- i is the instruction that the processor stands at
-abbrev pub offer : Program → Machine → Record → Event → Option Move
+abbrev pub offer : Columns → State → Record → Event → Option Move
 offer g m i e = cond (eqb (e .kind) 0) none (move e (permits (e .kind) (m .holder) (i .processor) (isDry m i)) (machineOf g (afterEvent m i e)))
 
-module _ (g : Program) (m : Machine) (ready : Ready g m) (i : Record) (own : Own i) (high : i .kind < tableRows) where
+module _ (g : Columns) (m : State) (ready : Ready g m) (i : Record) (own : Own i) (high : i .kind < tableRows) where
   abbrev p : ℕ
   p = i .processor
 
@@ -91,9 +90,9 @@ module _ (g : Program) (m : Machine) (ready : Ready g m) (i : Record) (own : Own
 
   -- ---- the machine after a program step that leaves `rest`
 
-  module _ (rest : List ProgramStep) (goes-on : (o : Machine) → o .at ≡ m .at → o .phase ≡ m .phase → todoIn g (advancedIn o i) p ≡ rest) where
+  module _ (rest : List ProgramStep) (goes-on : (o : State) → o .at ≡ m .at → o .phase ≡ m .phase → todoIn g (advancedIn o i) p ≡ rest) where
     -- o is the state before the program goes on
-    stepped : (o : Machine) (F : Processor → Processor) → o .at ≡ m .at → o .phase ≡ m .phase → Changes g m o p F
+    stepped : (o : State) (F : Processor → Processor) → o .at ≡ m .at → o .phase ≡ m .phase → Changes g m o p F
         → machineOf g (advancedIn o i) ≡ record { processors = set (M .processors) p (advanced (F (processor M p)) rest); memory = o .memory; holder = holderOf (o .holder) }
     stepped o F a f c = machine-is g m (advancedIn o i) p (λ P. advanced (F P) rest) (own .processor) (then g c (advanced-changes g o i rest (goes-on o a f)))
 

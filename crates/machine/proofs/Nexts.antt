@@ -1,106 +1,148 @@
 -- The step that the code takes is the one that the instruction comes to, kind by kind.
-use mathlib.Core.Path.{_≡_, refl, _∙_}
+use mathlib.Core.Path.{_≡_, refl, sym, ap, _∙_, subst}
 use mathlib.Core.Bool.{Bool, true, false, cond, _&&_}
 use mathlib.Core.List.{List}
-use Prim.Native.Nat.{ℕ}
-use lib.ListN.{getD}
+use Prim.Native.Nat.{ℕ, _<_}
+use lib.ListN.{length, getD, set}
 use lib.Dec.{eqb}
+use Rattle.model.specs.declared.answer.Attempt.{Attempt}
+use Rattle.model.specs.declared.answer.Attempt.the-variants.{Taken, Turned}
 use Rattle.model.specs.declared.record.Record.{Record}
+use Rattle.model.specs.Fields.{Proper}
+use Rattle.model.specs.Kinds.{stepUses}
 use Rattle.model.specs.Rules.{Event, event}
-use Rattle.model.specs.Code.{registerOf, instructionOf}
+use Rattle.model.specs.Code.{instructionOf, taken, judged}
 use Rattle.model.specs.Step.{same, newest}
 use Rattle.model.proofs.Bools.{self}
 use Rattle.rules.specs.Guards.{nobody, permits, issuedBy}
 use Rattle.rules.specs.Offers.{waitingFrom, nextIn}
-use Rattle.effects.specs.Takes.{names, Reads, Writes, Holds, Assigns}
-use Rattle.machine.specs.declared.state.Machine.{Machine}
-use Rattle.machine.specs.Arrays.{parts}
+use Rattle.machine_state.specs.State.{State}
+use Rattle.machine_state.specs.Packed.{memoryAt, keptAt, registersIn, memoryIn, keptIn, issuedAt, drainedAt, holderIn, issuedIn, drainedIn, stateIn}
+use Rattle.machine_state.proofs.Rows as rows
+use Rattle.machine_take.specs.Takes.{names, cellOf, isDry, allows, Reads, Writes, Holds, Assigns}
+use Rattle.machine.specs.Arrays as theory
+use Rattle.machine.specs.Arrays.{nextOf}
 use Rattle.machine.specs.Stores.{carriedOut}
-use Rattle.machine.specs.Next.{TakesNext}
+use Rattle.machine.specs.Next.{nextAllowed, TakesNext}
+use Rattle.machine.specs.Ready.{Own}
+use Rattle.machine.proofs.Propers.{no-register, Bare}
+use Rattle.machine.proofs.Stored as stored
 
 and-yes : (b : Bool) → b ≡ b && true
 and-yes true = refl
 and-yes false = refl
 
 -- an event of kind k and processor p, without a register
-pub same-names : (e : Event) (k p y w : ℕ) → e .kind ≡ k → e .processor ≡ p → e .register ≡ 0 → names (e .location) (e .value) y w ≡ same e (event k p y w)
+pub same-names : (e : Event) (k p y w : ℕ) → e .kind ≡ k → e .processor ≡ p → e .register ≡ 0 → names e y w ≡ same e (event k p y w)
 unfolding same
 same-names e k p y w ek ep er = rw (ek, ep, er, self k, self p)
 
-module _ (registers memory kept locations values issued drained : List ℕ) (holder kind p r y constant x v : ℕ) (b : Bool) where
-  abbrev i : Record
-  i = instructionOf kind p r y constant
+module _ (cells locations values marks : List ℕ) (i e : Record) (r : Attempt) (proper : Proper stepUses e) (h : e .processor < 4) (whose : i .processor ≡ e .processor) where
+  abbrev p : ℕ
+  p = e .processor
 
-  abbrev empty : Bool
-  empty = eqb (getD drained p 0) (getD issued p 0)
+  abbrev m : State
+  m = stateIn cells locations values marks
 
-  -- a step of kind k takes the arrays to these
-  abbrev Taken : ℕ → (registers' kept' locations' values' issued' : List ℕ) → ℕ → Type 0
-  Taken k = TakesNext registers memory kept locations values issued drained holder i (event k p x v) b
+  -- the instruction as e's processor's
+  abbrev o : Record
+  o = instructionOf (i .kind) p (i .register) (i .location) (i .value)
 
-  named : (k yk wk : ℕ) → names x v yk wk ≡ same (event k p x v) (event k p yk wk)
-  named k yk wk = same-names (event k p x v) k p yk wk refl refl refl
+  as-own : (n : State) → TakesNext m o e r n → TakesNext m i e r n
+  as-own n = subst (λ (w : Record). TakesNext m w e r n) (λ j. instructionOf (i .kind) (sym whose j) (i .register) (i .location) (i .value))
 
-  pub read-next : (registers' kept' : List ℕ) → Reads registers kept memory locations values (getD issued p 0) (getD drained p 0) holder kind p (registerOf i) y x v b registers' kept' → Taken 1 registers' kept' locations values issued holder
-  unfolding nextIn carriedOut
-  read-next registers' kept' t = record {
-    says = λ at phase. t .says ∙ (λ j. named 1 y (newest (waitingFrom locations values (getD issued p 0) (getD drained p 0) p) y (getD memory y 0)) j && permits 1 holder p empty);
-    after = λ at phase. rw (t .registersAfter, t .keptAfter) (go b _ _ at phase);
-  }
+  -- what the code finds in the arrays
+  n-is : getD marks (issuedAt p) 0 ≡ getD (issuedIn marks) p 0
+  n-is = sym (rows.issued-is marks p h)
+
+  d-is : getD marks (drainedAt p) 0 ≡ getD (drainedIn marks) p 0
+  d-is = sym (rows.drained-is marks p h)
+
+  -- the test: the step's kind, location and value are named, lock and buffer allow it
+  tested : (k y w : ℕ) → e .kind ≡ k → event k p y w ≡ nextOf m o k → r ≡ judged (names e y w && permits k (holderIn marks) p (isDry marks p)) → r ≡ judged (nextAllowed m o e)
+  unfolding stateIn
+  tested k y w z next f =
+      f ∙ (λ j. judged (same-names e k p y w z refl (no-register e proper) j && permits k (holderIn marks) p (eqb (d-is j) (n-is j))))
+      ∙ (λ j. judged (same e (next j) && permits k (holderIn marks) p (theory.isDry m o)))
+      ∙ (λ j. judged (same e (nextOf m o (sym z j)) && permits (sym z j) (holderIn marks) p (theory.isDry m o)))
+
+  -- a step of this kind names no location and no value
+  bare : (k : ℕ) → e .kind ≡ k → Bare e → event k p 0 0 ≡ nextOf m o k → r ≡ judged (allows k marks e) → r ≡ judged (nextAllowed m o e)
+  bare k z b next f = tested k 0 0 z next (f ∙ sym (λ j. judged ((eqb (b .location j) 0 && eqb (b .value j) 0) && allows k marks e)))
+
+  -- what is stored
+  stored-as : (n full : State) → n ≡ cond (taken r) full m → full ≡ carriedOut m o e → n ≡ cond (taken r) (carriedOut m o e) m
+  stored-as n full f g = f ∙ ap (λ (w : State). cond (taken r) w m) g
+
+  in-cells : (a : Attempt) (cells' full : List ℕ) → cells' ≡ cond (taken a) full cells → stateIn cells' locations values marks ≡ cond (taken a) (stateIn full locations values marks) m
+  in-cells Taken cells' full f = ap (λ (l : List ℕ). stateIn l locations values marks) f
+  in-cells (Turned why) cells' full f = ap (λ (l : List ℕ). stateIn l locations values marks) f
+
+  in-marks : (a : Attempt) (marks' full : List ℕ) → marks' ≡ cond (taken a) full marks → stateIn cells locations values marks' ≡ cond (taken a) (stateIn cells locations values full) m
+  in-marks Taken marks' full f = ap (λ (l : List ℕ). stateIn cells locations values l) f
+  in-marks (Turned why) marks' full f = ap (λ (l : List ℕ). stateIn cells locations values l) f
+
+  module _ (reg : i .register < 4) where
+    has : Own o
+    has = record { processor = h; register = reg }
+
+    pub read-next : e .kind ≡ 1 → i .location < 8 → (cells' : List ℕ) → Reads cells locations values marks i e r cells' → TakesNext m i e r (stateIn cells' locations values marks)
+    unfolding nextIn carriedOut stateIn
+    read-next z l cells' t =
+        let y = i .location in
+        as-own _
+        (record {
+          says = tested 1 y (newest (waitingFrom locations values (getD (issuedIn marks) p 0) (getD (drainedIn marks) p 0) p) y (getD (memoryIn cells) y 0)) z refl
+              (t .says ∙ (λ j. judged (names e y (newest (waitingFrom locations values (n-is j) (d-is j) p) y (sym (rows.memory-is cells y l) j)) && allows 1 marks e)));
+          after = stored-as _ _ (in-cells r cells' _ (t .cellsAfter)) (stored.received-is cells locations values marks o has (e .value) ∙ rw z);
+        })
+
+    pub write-next : e .kind ≡ 2 → (cells' locations' values' marks' : List ℕ) → Writes cells locations values marks i e r cells' locations' values' marks' → TakesNext m i e r (stateIn cells' locations' values' marks')
+    unfolding nextIn carriedOut stateIn
+    write-next z cells' locations' values' marks' t =
+        let c = cellOf i e in
+        let w = issuedBy (i .kind) (i .value) (getD (keptIn cells) p 0) (getD (registersIn cells) c 0) in
+        as-own _
+        (record {
+          says = tested 2 (i .location) w z refl
+              (t .says
+              ∙ (λ j. judged (names e (i .location) (issuedBy (i .kind) (i .value) (sym (rows.kept-is cells p h) j) (sym (rows.register-is cells c (stored.cell cells locations values marks o has)) j))))
+              ∙ ap judged (and-yes (names e (i .location) w)));
+          after = stored-as _ _ (rw (t .cellsAfter, t .locationsAfter, t .valuesAfter, t .marksAfter) (go r _ _ _ _)) (stored.wrote-is cells locations values marks o has e ∙ rw z);
+        })
+      where
+        go : (a : Attempt) (cs ls vs ks : List ℕ) → stateIn (cond (taken a) cs cells) (cond (taken a) ls locations) (cond (taken a) vs values) (cond (taken a) ks marks) ≡ cond (taken a) (stateIn cs ls vs ks) m
+        go Taken cs ls vs ks = refl
+        go (Turned why) cs ls vs ks = refl
+
+    pub local-next : e .kind ≡ 7 → Bare e → (cells' : List ℕ) → Assigns cells i e r cells' → TakesNext m i e r (stateIn cells' locations values marks)
+    unfolding nextIn carriedOut stateIn
+    local-next z b cells' t =
+        as-own _
+        (record {
+          says = bare 7 z b refl (t .says);
+          after = (ap (λ (l : List ℕ). stateIn l locations values marks) (t .cellsAfter) ∙ stored.assigned-is cells locations values marks o has (i .value) ∙ rw z)
+              ∙ sym (ap (λ (a : Attempt). cond (taken a) (carriedOut m o e) m) (t .says));
+        })
+
+  pub fence-next : e .kind ≡ 4 → Bare e → r ≡ judged (allows 4 marks e) → TakesNext m i e r m
+  unfolding nextIn carriedOut stateIn
+  fence-next z b t = as-own _ (record { says = bare 4 z b refl t; after = stored-as m m (go r) (rw z) })
     where
-      go : (b : Bool) (rs ks at phase : List ℕ) → parts (cond b rs registers) memory (cond b ks kept) at phase locations values issued drained holder
-          ≡ cond b (parts rs memory ks at phase locations values issued drained holder) (parts registers memory kept at phase locations values issued drained holder)
-      go true rs ks at phase = refl
-      go false rs ks at phase = refl
+      go : (a : Attempt) → m ≡ cond (taken a) m m
+      go Taken = refl
+      go (Turned why) = refl
 
-  pub write-next : (registers' locations' values' issued' : List ℕ) → Writes registers kept locations values issued kind p (registerOf i) y constant x v b registers' locations' values' issued'
-      → Taken 2 registers' kept locations' values' issued' holder
-  unfolding nextIn carriedOut
-  write-next registers' locations' values' issued' t = record {
-    says = λ at phase. t .says ∙ named 2 y (issuedBy kind constant (getD kept p 0) (getD registers (registerOf i) 0)) ∙ and-yes _;
-    after = λ at phase. rw (t .registersAfter, t .locationsAfter, t .valuesAfter, t .issuedAfter) (go b _ _ _ _ at phase);
-  }
-    where
-      go : (b : Bool) (rs xs vs is at phase : List ℕ) → parts (cond b rs registers) memory kept at phase (cond b xs locations) (cond b vs values) (cond b is issued) drained holder
-          ≡ cond b (parts rs memory kept at phase xs vs is drained holder) (parts registers memory kept at phase locations values issued drained holder)
-      go true rs xs vs is at phase = refl
-      go false rs xs vs is at phase = refl
+  module _ (l : 0 < length marks) (marks' : List ℕ) where
+    -- the holder afterwards is `holder`
+    held : (k holder : ℕ) → e .kind ≡ k → Bare e → event k p 0 0 ≡ nextOf m o k → stateIn cells locations values (set marks 0 holder) ≡ carriedOut m o e → Holds k holder marks e r marks'
+        → TakesNext m i e r (stateIn cells locations values marks')
+    held k holder z b next f t = as-own _ (record { says = bare k z b next (t .says); after = stored-as _ _ (in-marks r marks' _ (t .marksAfter)) f })
 
-  pub fence-next : b ≡ names x v 0 0 && permits 4 holder p empty → Taken 4 registers kept locations values issued holder
-  unfolding nextIn carriedOut
-  fence-next t = record { says = λ at phase. t ∙ (λ j. named 4 0 0 j && empty); after = λ at phase. go b _ }
-    where
-      go : (b : Bool) (m : Machine) → m ≡ cond b m m
-      go true m = refl
-      go false m = refl
+    pub lock-next : e .kind ≡ 5 → Bare e → Holds 5 p marks e r marks' → TakesNext m i e r (stateIn cells locations values marks')
+    unfolding nextIn carriedOut stateIn
+    lock-next z b = held 5 p z b refl (stored.held-is cells locations values marks l p ∙ rw z)
 
-  held : (b : Bool) (h : ℕ) (at phase : List ℕ) → parts registers memory kept at phase locations values issued drained (cond b h holder)
-      ≡ cond b (parts registers memory kept at phase locations values issued drained h) (parts registers memory kept at phase locations values issued drained holder)
-  held true h at phase = refl
-  held false h at phase = refl
-
-  pub lock-next : (holder' : ℕ) → Holds 5 p holder empty p x v b holder' → Taken 5 registers kept locations values issued holder'
-  unfolding nextIn carriedOut
-  lock-next holder' t = record {
-    says = λ at phase. t .says ∙ (λ j. named 5 0 0 j && permits 5 holder p empty);
-    after = λ at phase. rw (t .holderAfter) (held b p at phase);
-  }
-
-  pub unlock-next : (holder' : ℕ) → Holds 6 nobody holder empty p x v b holder' → Taken 6 registers kept locations values issued holder'
-  unfolding nextIn carriedOut
-  unlock-next holder' t = record {
-    says = λ at phase. t .says ∙ (λ j. named 6 0 0 j && permits 6 holder p empty);
-    after = λ at phase. rw (t .holderAfter) (held b nobody at phase);
-  }
-
-  pub local-next : (registers' : List ℕ) → Assigns registers (registerOf i) constant x v b registers' → Taken 7 registers' kept locations values issued holder
-  unfolding nextIn carriedOut
-  local-next registers' t = record {
-    says = λ at phase. t .says ∙ named 7 0 0 ∙ and-yes _;
-    after = λ at phase. rw (t .registersAfter) (go b _ at phase);
-  }
-    where
-      go : (b : Bool) (rs at phase : List ℕ) → parts (cond b rs registers) memory kept at phase locations values issued drained holder
-          ≡ cond b (parts rs memory kept at phase locations values issued drained holder) (parts registers memory kept at phase locations values issued drained holder)
-      go true rs at phase = refl
-      go false rs at phase = refl
+    pub unlock-next : e .kind ≡ 6 → Bare e → Holds 6 nobody marks e r marks' → TakesNext m i e r (stateIn cells locations values marks')
+    unfolding nextIn carriedOut stateIn
+    unlock-next z b = held 6 nobody z b refl (stored.held-is cells locations values marks l nobody ∙ rw z)

@@ -10,7 +10,6 @@ use lib.Seq.{getD-set-same}
 use lib.Dec.{eqb, ltb}
 use borrow.Author.Tests.{eqb-true, ne-eqb, ltb-true, ltb-false, lt-ltb, le-ltb}
 use Rattle.model.specs.declared.record.Record.{Record}
-use Rattle.model.specs.declared.table.Program.{Program}
 use Rattle.model.specs.Program.{ProgramStep}
 use Rattle.model.specs.Sizes.{processors}
 use Rattle.model.specs.Kinds.{tableRows}
@@ -18,26 +17,25 @@ use Rattle.model.specs.Machine as model
 use Rattle.model.specs.Machine.{Processor, processor}
 use Rattle.model.specs.Rules.{Event, event}
 use Rattle.model.specs.Step.{move, took, turned, drainMove, nextMove, moveFor, judge, same, step}
-use Rattle.model.specs.Code.{instructionAt, countIn}
-use Rattle.machine.specs.declared.state.Machine.{Machine}
+use Rattle.model.specs.Code.{Columns, instructionAt, countIn}
 use Rattle.machine.specs.View.{todoIn, processorOf, machineOf}
 use Rattle.rules.specs.Steps.{stepsOfKind, stepKind, stepCount}
 use Rattle.rules.specs.Programs.{fetched, Fetched}
 use Rattle.rules.specs.Guards.{permits}
 use Rattle.rules.specs.Offers.{nextIn, offeredIn}
 use Rattle.machine.specs.Arrays.{oldestOf, nextOf, offeredOf, isDry}
-use Rattle.store.specs.Stores.{isLast}
-use Rattle.machine.specs.Stores.{advancedIn, afterEvent}
+use Rattle.machine.specs.Stores.{isLast, advancedIn, afterEvent}
 use Rattle.machine.specs.Ready.{Own, ReadyAt, Ready}
 use Rattle.machine.proofs.Todo.{stepFor, restAt, none-left, next-left, rest-left}
 use Rattle.machine.proofs.Changes.{processor-is, at-next}
 use Rattle.machine.proofs.Moves.{offer, oldest-offer, offers}
+use Rattle.machine_state.specs.State.{State}
 
 pub unlike : (e o : Event) → ¬ (e .kind ≡ o .kind) → same e o ≡ false
 unfolding same
 unlike e o n = rw (ne-eqb (e .kind) (o .kind) n)
 
-module _ (g : Program) (m : Machine) (ready : Ready g m) (i : Record) (here : Fetched g (i .processor) (getD (m .at) (i .processor) 0) i) (h : i .processor < processors) where
+module _ (g : Columns) (m : State) (ready : Ready g m) (i : Record) (here : Fetched g (i .processor) (getD (m .at) (i .processor) 0) i) (h : i .processor < processors) where
   abbrev p : ℕ
   p = i .processor
 
@@ -80,7 +78,7 @@ module _ (g : Program) (m : Machine) (ready : Ready g m) (i : Record) (here : Fe
     unfolding todoIn
     todo-next = next-left g p a f high l (at .stands .inside l) ∙ (λ j. stepFor (sym (is-instruction l) j) (stepKind (sym kind-is j) f) ∷ rest)
 
-    pub goes-on : (o : Machine) → o .at ≡ m .at → o .phase ≡ m .phase → todoIn g (advancedIn o i) p ≡ rest
+    pub goes-on : (o : State) → o .at ≡ m .at → o .phase ≡ m .phase → todoIn g (advancedIn o i) p ≡ rest
     unfolding todoIn
     goes-on o ea ef =
         rw (

@@ -5,20 +5,19 @@ use Prim.Native.Nat.{ℕ, _+_, _-_, _*_}
 use native.Mathlib.Omega.{arith}
 use lib.ListN.{replicate}
 use lib.Dec.{lit<}
-use Rattle.model.specs.declared.table.Program.{Program}
 use Rattle.model.specs.declared.table.Cells.{Cells}
 use Rattle.model.specs.Sizes.{processors, registersEach}
-use Rattle.model.specs.Code.{row, stepsFrom, countIn, processorAtStart, startOf, Fits, Sized}
+use Rattle.model.specs.Code.{Columns, row, stepsFrom, countIn, processorAtStart, startOf, Fits, Sized}
 use Rattle.model.proofs.Columns.{few-writes}
 use Rattle.model.proofs.Rows.{alike}
-use Rattle.machine.specs.declared.state.Machine.{Machine}
 use Rattle.machine.specs.View.{waitingIn, todoIn, processorOf, holderOf, machineOf}
 use Rattle.machine.specs.Arrays.{startIn}
 use Rattle.machine.specs.Ready.{Ready}
 use Rattle.rules.proofs.Lookup.{part-none}
 use Rattle.machine.proofs.Todo.{stands-first}
+use Rattle.machine_state.specs.State.{State}
 
-module _ (g : Program) (c : Cells) where
+module _ (g : Columns) (c : Cells) where
   start-todo : (p : ℕ) → todoIn g (startIn c) p ≡ stepsFrom g p 0 (countIn g p)
   unfolding todoIn
   start-todo p = let e : countIn g p - 0 ≡ countIn g p = omega arith in rw (alike {A = ℕ} 0 4 p, e)

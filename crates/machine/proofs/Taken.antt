@@ -9,27 +9,25 @@ use lib.Seq.{getD-set-same, getD-set-other}
 use lib.Dec.{eqb, ltb}
 use borrow.Author.Tests.{eqb-true, eqb-false, ne-eqb, ltb-true, ltb-false}
 use Rattle.model.specs.declared.record.Record.{Record}
-use Rattle.model.specs.declared.table.Program.{Program}
 use Rattle.model.specs.Sizes.{processors, instructionsEach}
 use Rattle.model.specs.Left.{writes}
 use Rattle.model.specs.Rules.{Event, event}
-use Rattle.model.specs.Code.{countIn}
+use Rattle.model.specs.Code.{Columns, countIn}
 use Rattle.model.proofs.Bools.{and-left, same-true}
-use Rattle.machine.specs.declared.state.Machine.{Machine}
 use Rattle.machine.specs.View.{todoIn}
 use Rattle.rules.specs.Steps.{stepsOfKind, stepKind}
 use Rattle.machine.specs.Arrays.{oldestOf, nextOf, offeredOf}
 use Rattle.rules.specs.Offers.{nextIn, oldestIn, offeredIn}
 use Rattle.machine.specs.Stores.{drainedIn, carriedOut, afterEvent}
-use Rattle.store.specs.Stores.{Onward}
 use Rattle.machine.specs.Ready.{ReadyAt, Ready}
 use Rattle.rules.specs.Programs.{Fetched}
 use Rattle.machine.proofs.Todo.{stepFor, by-kind}
 use Rattle.machine.proofs.Sim.{is-instruction, is-none, rest, todo-next, allowed}
 use Rattle.machine.proofs.Lengths.{drained-long}
 use Rattle.machine.proofs.Keeps.{carries, ready-advanced}
+use Rattle.machine_state.specs.State.{State}
 
-module _ (g : Program) (m : Machine) (ready : Ready g m) (i : Record) (here : Fetched g (i .processor) (getD (m .at) (i .processor) 0) i) (h : i .processor < processors) where
+module _ (g : Columns) (m : State) (ready : Ready g m) (i : Record) (here : Fetched g (i .processor) (getD (m .at) (i .processor) 0) i) (h : i .processor < processors) where
   abbrev p : ℕ
   p = i .processor
 
@@ -91,9 +89,6 @@ module _ (g : Program) (m : Machine) (ready : Ready g m) (i : Record) (here : Fe
 
   abbrev Taken : Event → Type 0
   Taken o = Ready g (afterEvent m i o)
-
-  pub onward : Onward (m .at) (m .phase) (i .kind) p
-  onward = let x = at .stands .at in let y = ready .fits .few p in record { processor = h; known = here .kind; at = omega arith; low = at .stands .phase }
 
   -- a program step is offered only inside the program
   pub inside : 0 < stepKind (i .kind) f → a < countIn g p

@@ -2,39 +2,47 @@
 use mathlib.Core.Path.{_≡_, refl, sym, ap, _∙_, subst}
 use mathlib.Core.Bool.{Bool, true, false, cond, _&&_}
 use mathlib.Core.List.{List}
-use Prim.Native.Nat.{ℕ, _*_, _≤_, _<_}
+use Prim.Native.Nat.{ℕ, _≤_, _<_}
 use native.Mathlib.Omega.{arith}
-use lib.ListN.{getD}
-use lib.Dec.{eqb, lit<}
-use borrow.Author.Tests.{lt-ltb, ne-eqb}
+use lib.ListN.{getD, set}
+use lib.Dec.{eqb}
+use borrow.Author.Tests.{ne-eqb}
+use Rattle.model.specs.declared.answer.Attempt.{Attempt}
+use Rattle.model.specs.declared.answer.Attempt.the-variants.{Taken, Turned}
+use Rattle.model.specs.declared.answer.Refusal.{Refusal}
+use Rattle.model.specs.declared.answer.Refusal.the-variants.{NotAllowed}
 use Rattle.model.specs.declared.record.Record.{Record}
-use Rattle.model.specs.declared.table.Program.{Program}
 use Rattle.model.specs.Sizes.{processors, instructionsEach}
+use Rattle.model.specs.Fields.{Proper}
+use Rattle.model.specs.Kinds.{tableRows, stepUses}
 use Rattle.model.specs.Rules.{Event, event}
-use Rattle.model.specs.Code.{placeAt, instructionAt, countIn, instructionOf}
+use Rattle.model.specs.Code.{Columns, placeAt, instructionAt, countIn, taken, judged}
 use Rattle.model.specs.Step.{same}
 use Rattle.model.proofs.Bools.{false-true, and-left, same-true}
 use Rattle.rules.specs.Guards.{permits}
-use Rattle.model.specs.Kinds.{tableRows}
-use Rattle.rules.specs.Steps.{phases, stepsOfKind, stepKind, stepCount}
+use Rattle.rules.specs.Steps.{phases, stepsOfKind, stepKind}
 use Rattle.rules.specs.Programs.{fetched, Fetched}
-use Rattle.rules.specs.Offers.{Log, oldestIn, offeredIn}
+use Rattle.rules.specs.Offers.{oldestIn, offeredIn}
 use Rattle.rules.proofs.Instructions.{fetched-is}
-use Rattle.store.specs.Stores.{nextAt, nextPhase, Onward}
-use Rattle.effects.specs.Takes.{MayDrain, Drains, drainAllowed, names}
-use Rattle.machine.specs.declared.state.Machine.{Machine}
-use Rattle.machine.specs.Arrays.{parts, isDry, oldestOf, nextOf, offeredOf}
-use Rattle.machine.specs.Stores.{advancedIn, carriedOut, afterEvent}
+use Rattle.machine_state.specs.State.{State}
+use Rattle.machine_state.specs.Packed.{memoryAt, standsAt, phaseAt, issuedAt, drainedAt, holderIn, countsIn, stateIn, columnsIn}
+use Rattle.machine_store.specs.Stores.{oneMoreDrained, advanced, Onward}
+use Rattle.machine_take.specs.Takes.{names, drainAllowed, MayDrain, Drains}
+use Rattle.machine.specs.Arrays.{isDry, oldestOf, nextOf, offeredOf}
+use Rattle.machine.specs.Stores.{drainedIn, advancedIn, carriedOut, afterEvent}
 use Rattle.machine.specs.Next.{MayTake, nextAllowed, TakesNext}
-use Rattle.machine.specs.Ready.{Ready, WellFormed, Steps}
-use Rattle.machine.proofs.Todo.{by-kind}
+use Rattle.machine.specs.Ready.{Ready, Steps}
+use Rattle.machine.proofs.Propers.{some-kind, low-processor, low-location, no-register}
 use Rattle.machine.proofs.Sim.{unlike as unlike-kind, is-none, allowed, step-is}
-use Rattle.machine.proofs.Taken.{next-fields, room, onward, taken}
+use Rattle.machine.proofs.Stored as stored
+use Rattle.machine.proofs.Standing as standing
+use Rattle.machine.proofs.Standing.{Stays, stays}
+use Rattle.machine.proofs.Taken.{next-fields, taken as still}
 use Rattle.machine.proofs.Nexts.{same-names}
 
 -- ---- where the processor of e stands at the instruction i
 
-module _ (g : Program) (m : Machine) (ready : Ready g m) (e : Event) (range : WellFormed e) (i : Record)
+module _ (g : Columns) (m : State) (ready : Ready g m) (e : Event) (proper : Proper stepUses e) (i : Record)
     (here : Fetched g (i .processor) (getD (m .at) (i .processor) 0) i) (h : i .processor < processors) (whose : e .processor ≡ i .processor) where
   abbrev q : ℕ
   q = i .processor
@@ -45,16 +53,19 @@ module _ (g : Program) (m : Machine) (ready : Ready g m) (e : Event) (range : We
   abbrev test : Bool
   test = allowed g m ready i here h e o
 
-  settled : (b : Bool) → b ≡ test → (n : Machine) → n ≡ cond b (afterEvent m i e) m → Steps g m e b n
-  settled true z n f =
-      let is : e ≡ o = same-true e o (and-left _ _ (sym z)) in
-      let after : n ≡ afterEvent m i o = f ∙ ap (afterEvent m i) is in
-      record {
-        says = step-is g m ready i here h e (range .kind) whose ∙ rw (sym z, after);
-        ready = rw after (taken g m ready i here h e (range .kind) (sym z));
-        kept = λ w. false-true (sym w);
-      }
-  settled false z n f = record { says = step-is g m ready i here h e (range .kind) whose ∙ rw (sym z); ready = rw f ready; kept = λ w. f }
+  settled : (r : Attempt) → r ≡ judged test → (n : State) → n ≡ cond (taken r) (afterEvent m i e) m → Steps g m e r n
+  settled r z n f = subst (λ (r : Attempt). Steps g m e r n) (sym z) (go test refl (f ∙ ap (λ (r : Attempt). cond (taken r) (afterEvent m i e) m) z))
+    where
+      go : (b : Bool) → b ≡ test → n ≡ cond (taken (judged b)) (afterEvent m i e) m → Steps g m e (judged b) n
+      go true z f =
+          let is : e ≡ o = same-true e o (and-left _ _ (sym z)) in
+          let after : n ≡ afterEvent m i o = f ∙ ap (afterEvent m i) is in
+          record {
+            says = step-is g m ready i here h e (some-kind e proper) whose ∙ rw (sym z, after);
+            ready = rw after (still g m ready i here h e (some-kind e proper) (sym z));
+            kept = λ w. false-true (sym w);
+          }
+      go false z f = record { says = step-is g m ready i here h e (some-kind e proper) whose ∙ rw (sym z); ready = rw f ready; kept = λ w. f }
 
   unlike : ¬ (e ≡ o) → false ≡ test
   unlike n = go (same e o) refl
@@ -63,52 +74,36 @@ module _ (g : Program) (m : Machine) (ready : Ready g m) (e : Event) (range : We
       go true z = absurd (n (same-true e o z))
       go false z = refl
 
-  turned : ¬ (e ≡ o) → Steps g m e false m
-  turned n = settled false (unlike n) m refl
-
-  -- no event has a register
-  no-register : o .register ≡ 0
-  unfolding offeredIn oldestIn
-  no-register = go (eqb (e .kind) 3) (oldest (eqb (getD (m .drained) q 0) (getD (m .issued) q 0)))
-    where
-      oldest : (b : Bool) → cond b (event 0 q 0 0) (event 3 q (getD (m .locations) (placeAt q (getD (m .drained) q 0)) 0) (getD (m .values) (placeAt q (getD (m .drained) q 0)) 0)) .register ≡ 0
-      oldest true = refl
-      oldest false = refl
-
-      go : (b : Bool) → oldestOf m i .register ≡ 0 → cond b (oldestOf m i) (nextOf m i (stepKind (i .kind) (getD (m .phase) q 0))) .register ≡ 0
-      go true f = f
-      go false f = next-fields g m ready i here h (stepKind (i .kind) (getD (m .phase) q 0)) .1
-
-  odd : ¬ (e .register ≡ 0) → Steps g m e false m
-  odd n = turned (λ is. n (ap (λ (r : Record). r .register) is ∙ no-register))
+  turned : ¬ (e ≡ o) → Steps g m e (Turned NotAllowed) m
+  turned n = settled (Turned NotAllowed) (ap judged (unlike n)) m refl
 
   -- ---- a drain
 
-  module _ (d : e .kind ≡ 3) (r : e .register ≡ 0) where
+  module _ (d : e .kind ≡ 3) where
     is-oldest : oldestOf m i ≡ o
     unfolding offeredIn
     is-oldest = rw d refl
 
-    drain-test : drainAllowed (m .locations) (m .values) (getD (m .issued) q 0) (getD (m .drained) q 0) (m .holder) q (e .location) (e .value) ≡ test
+    drain-test : drainAllowed (m .locations) (m .values) (getD (m .issued) (e .processor) 0) (getD (m .drained) (e .processor) 0) (m .holder) e ≡ test
     unfolding oldestIn
     drain-test =
-        go (isDry m i) (getD (m .locations) (placeAt q (getD (m .drained) q 0)) 0) (getD (m .values) (placeAt q (getD (m .drained) q 0)) 0)
+        (λ j. allowed-of (whose j)) ∙ go (isDry m i) (getD (m .locations) (placeAt q (getD (m .drained) q 0)) 0) (getD (m .values) (placeAt q (getD (m .drained) q 0)) 0)
         ∙ (λ j. same e (is-oldest j) && permits (is-oldest j .kind) (m .holder) q (isDry m i))
       where
-        go : (b : Bool) (x v : ℕ) → cond b false (names (e .location) (e .value) x v && permits 3 (m .holder) q false)
+        allowed-of : ℕ → Bool
+        allowed-of p =
+            cond (eqb (getD (m .drained) p 0) (getD (m .issued) p 0)) false
+            (names e (getD (m .locations) (placeAt p (getD (m .drained) p 0)) 0) (getD (m .values) (placeAt p (getD (m .drained) p 0)) 0) && permits 3 (m .holder) p false)
+
+        go : (b : Bool) (x v : ℕ) → cond b false (names e x v && permits 3 (m .holder) q false)
             ≡ same e (cond b (event 0 q 0 0) (event 3 q x v)) && permits (cond b (event 0 q 0 0) (event 3 q x v) .kind) (m .holder) q b
         go true x v = sym (λ j. unlike-kind e (event 0 q 0 0) (λ z. omega (arith, sym d ∙ z)) j && true)
-        go false x v = λ j. same-names e 3 q x v d whose r j && permits 3 (m .holder) q false
+        go false x v = λ j. same-names e 3 q x v d whose (no-register e proper) j && permits 3 (m .holder) q false
 
-    drain-at : (b : Bool) (memory' drained' : List ℕ) → Drains (m .memory) (m .drained) (m .locations) (m .values) (getD (m .issued) q 0) (m .holder) q (e .location) (e .value) b memory' drained'
-        → Steps g m e b (parts (m .registers) memory' (m .kept) (m .at) (m .phase) (m .locations) (m .values) (m .issued) drained' (m .holder))
+    drained-at : (r : Attempt) → r ≡ judged (drainAllowed (m .locations) (m .values) (getD (m .issued) (e .processor) 0) (getD (m .drained) (e .processor) 0) (m .holder) e)
+        → (n : State) → n ≡ cond (taken r) (drainedIn m e) m → Steps g m e r n
     unfolding afterEvent
-    drain-at b memory' drained' t = settled b (t .says ∙ drain-test) _ (rw (t .memoryAfter, t .drainedAfter, d, sym whose) (go b _ _))
-      where
-        go : (b : Bool) (ms ds : List ℕ) → parts (m .registers) (cond b ms (m .memory)) (m .kept) (m .at) (m .phase) (m .locations) (m .values) (m .issued) (cond b ds (m .drained)) (m .holder)
-            ≡ cond b (parts (m .registers) ms (m .kept) (m .at) (m .phase) (m .locations) (m .values) (m .issued) ds (m .holder)) m
-        go true ms ds = refl
-        go false ms ds = refl
+    drained-at r z n f = settled r (z ∙ ap judged drain-test) n (rw d f)
 
   -- ---- a program step
 
@@ -117,15 +112,15 @@ module _ (g : Program) (m : Machine) (ready : Ready g m) (e : Event) (range : We
     unfolding offeredIn
     next-kind = rw (ne-eqb (e .kind) 3 n) (next-fields g m ready i here h (stepKind (i .kind) (getD (m .phase) q 0)) .0)
 
-    other : ¬ (e .kind ≡ stepKind (i .kind) (getD (m .phase) q 0)) → Steps g m e false m
+    other : ¬ (e .kind ≡ stepKind (i .kind) (getD (m .phase) q 0)) → Steps g m e (Turned NotAllowed) m
     other k = turned (λ is. k (ap (λ (r : Record). r .kind) is ∙ next-kind))
 
-    past : countIn g q ≤ getD (m .at) q 0 → Steps g m e false m
+    past : countIn g q ≤ getD (m .at) q 0 → Steps g m e (Turned NotAllowed) m
     unfolding stepKind stepsOfKind
     past l =
         let none : i .kind ≡ 0 = ap (λ (r : Record). r .kind) (is-none g m ready i here h l) in
         let x : stepKind (i .kind) (getD (m .phase) q 0) ≡ 0 = ap (λ (k : ℕ). stepKind k (getD (m .phase) q 0)) none in
-        let some = range .kind in
+        let some = some-kind e proper in
         other (λ z. absurd (omega (arith, z ∙ x)))
 
     module _ (k : e .kind ≡ stepKind (i .kind) (getD (m .phase) q 0)) where
@@ -138,121 +133,131 @@ module _ (g : Program) (m : Machine) (ready : Ready g m) (e : Event) (range : We
           (λ j. same e (nextOf m i (e .kind)) && permits (sym (next-fields g m ready i here h (e .kind) .0) j) (m .holder) q (isDry m i))
           ∙ (λ j. same e (is-next j) && permits (is-next j .kind) (m .holder) q (isDry m i))
 
-      taken-at : (b : Bool) → b ≡ nextAllowed m i e → (s : Machine) → s ≡ cond b (advancedIn (carriedOut m i e) i) m → Steps g m e b s
+      taken-at : (r : Attempt) → r ≡ judged (nextAllowed m i e) → (s : State) → s ≡ cond (taken r) (advancedIn (carriedOut m i e) i) m → Steps g m e r s
       unfolding afterEvent
-      taken-at b z s f = settled b (z ∙ next-test) s (rw (ne-eqb (e .kind) 3 n) f)
+      taken-at r z s f = settled r (z ∙ ap judged next-test) s (rw (ne-eqb (e .kind) 3 n) f)
 
 -- ---- the code's branches
 
-module _ (g : Program) (m : Machine) (ready : Ready g m) (e : Event) (range : WellFormed e) where
+module _ (codes constants cells locations values marks : List ℕ) (ready : Ready (columnsIn codes constants) (stateIn cells locations values marks)) (e : Event) (proper : Proper stepUses e) where
+  abbrev g : Columns
+  g = columnsIn codes constants
+
+  abbrev m : State
+  m = stateIn cells locations values marks
+
   abbrev p : ℕ
   p = e .processor
 
-  abbrev a : ℕ
-  a = getD (m .at) p 0
-
-  abbrev f : ℕ
-  f = getD (m .phase) p 0
+  h : p < processors
+  h = low-processor e proper
 
   -- with or without an instruction
   abbrev any : Record
-  any = fetched g p a
+  any = fetched g p (getD (m .at) p 0)
 
-  any-here : Fetched g p a any
-  any-here = fetched-is g p a (ready .fits) (range .processor) any refl
+  any-here : Fetched g p (getD (m .at) p 0) any
+  any-here = fetched-is g p (getD (m .at) p 0) (ready .fits) h any refl
 
-  whose : e .processor ≡ any .processor
+  whose : p ≡ any .processor
   whose = sym (any-here .processor)
-
-  low : any .processor < processors
-  low = rw (sym whose) (range .processor)
 
   own : Fetched g (any .processor) (getD (m .at) (any .processor) 0) any
   own = subst (λ (q : ℕ). Fetched g q (getD (m .at) q 0) any) whose any-here
 
-  log : Log (m .locations) (m .values) (getD (m .issued) p 0) (getD (m .drained) p 0) p
-  log =
-      let r = ready .each p (range .processor) in
-      let w = r .room in
-      record { processor = range .processor; order = r .order; few = omega arith; locations = ready .long .logLocations; values = ready .long .logValues }
+  low : any .processor < processors
+  low = rw (sym whose) h
 
-  pub with-register : ¬ (e .register ≡ 0) → Steps g m e false m
-  with-register = odd g m ready e range any own low whose
+  n-is : getD marks (issuedAt p) 0 ≡ getD (m .issued) p 0
+  n-is = standing.n-is _ _ _ _ _ _ ready p h
 
-  pub can-drain : MayDrain (m .locations) (m .values) (getD (m .issued) p 0) (getD (m .drained) p 0) p
-  can-drain = record { log = log; inLog = ready .inLog }
+  d-is : getD marks (drainedAt p) 0 ≡ getD (m .drained) p 0
+  d-is = standing.d-is _ _ _ _ _ _ ready p h
 
-  pub drains-it : e .kind ≡ 3 → e .register ≡ 0 → (b : Bool) (memory' drained' : List ℕ)
-      → Drains (m .memory) (m .drained) (m .locations) (m .values) (getD (m .issued) p 0) (m .holder) p (e .location) (e .value) b memory' drained'
-      → Steps g m e b (parts (m .registers) memory' (m .kept) (m .at) (m .phase) (m .locations) (m .values) (m .issued) drained' (m .holder))
-  drains-it d r b memory' drained' t =
-      drain-at g m ready e range any own low whose d r b memory' drained'
-      (subst (λ (q : ℕ). Drains (m .memory) (m .drained) (m .locations) (m .values) (getD (m .issued) q 0) (m .holder) q (e .location) (e .value) b memory' drained') whose t)
+  a-is : getD marks (standsAt p) 0 ≡ getD (m .at) p 0
+  a-is = standing.a-is _ _ _ _ _ _ ready p h
 
-  pub at-the-end : ¬ (e .kind ≡ 3) → countIn g p ≤ a → Steps g m e false m
-  at-the-end n l = past g m ready e range any own low whose n (subst (λ (q : ℕ). countIn g q ≤ getD (m .at) q 0) whose l)
+  -- ---- a drain
 
-  module _ (l : a < countIn g p) where
-    abbrev k : ℕ
-    k = placeAt p a
+  pub can-drain : MayDrain locations values marks e
+  can-drain = record { log = standing.log _ _ _ _ _ _ ready p h; location = low-location e proper }
 
-    pub in-columns : k < processors * instructionsEach
-    in-columns = let few = ready .fits .few p in let h = range .processor in omega arith
+  pub drains-it : e .kind ≡ 3 → (r : Attempt) (cells' marks' : List ℕ) → Drains cells locations values marks e r cells' marks' → Steps g m e r (stateIn cells' locations values marks')
+  unfolding stateIn
+  drains-it k r cells' marks' t =
+      drained-at g m ready e proper any own low whose k r (t .says ∙ (λ j. judged (drainAllowed locations values (n-is j) (d-is j) (holderIn marks) e))) _
+      (go r (t .cellsAfter) (t .marksAfter))
+    where
+      go : (a : Attempt) → cells' ≡ cond (taken a) (set cells (memoryAt (e .location)) (e .value)) cells → marks' ≡ cond (taken a) (oneMoreDrained marks p) marks
+          → stateIn cells' locations values marks' ≡ cond (taken a) (drainedIn m e) m
+      go Taken ec ek = (λ j. stateIn (ec j) locations values (ek j)) ∙ stored.drained-is cells locations values marks e h (low-location e proper)
+      go (Turned why) ec ek = λ j. stateIn (ec j) locations values (ek j)
 
-    abbrev i : Record
-    i = instructionOf (getD (g .kinds) k 0) p (getD (g .registers) k 0) (getD (g .locations) k 0) (getD (g .values) k 0)
+  -- ---- a program step
 
-    pub here : Fetched g p a i
-    unfolding fetched instructionAt
-    here = fetched-is g p a (ready .fits) (range .processor) i (rw (lt-ltb a (countIn g p) l))
+  pub at-the-end : ¬ (e .kind ≡ 3) → getD (countsIn codes) p 0 ≤ getD marks (standsAt p) 0 → Steps g m e (Turned NotAllowed) m
+  unfolding columnsIn
+  at-the-end n l =
+      let a = a-is in
+      let l′ : countIn g p ≤ getD (m .at) p 0 = omega arith in
+      past g m ready e proper any own low whose n (subst (λ (q : ℕ). countIn g q ≤ getD (m .at) q 0) whose l′)
 
-    pub inside : f < stepCount (i .kind)
-    unfolding instructionAt
-    inside = ready .each p (range .processor) .stands .inside l
+  module _ (l : getD marks (standsAt p) 0 < getD (countsIn codes) p 0) where
+    some : getD (m .at) p 0 < countIn g p
+    unfolding columnsIn
+    some = let a = a-is in omega arith
 
-    pub known : i .kind < tableRows
-    known = here .kind
+    pub below : getD marks (standsAt p) 0 < instructionsEach
+    below = standing.below _ _ _ _ _ _ ready p h some
 
-    pub low-phase : f < phases
-    low-phase = ready .each p (range .processor) .stands .phase
+    module _ (i : Record) (read : i ≡ instructionAt g p (getD marks (standsAt p) 0)) where
+      its : i .processor ≡ p
+      its = standing.its _ _ _ _ _ _ ready p h some i read
 
-    pub another : ¬ (e .kind ≡ 3) → ¬ (e .kind ≡ stepKind (i .kind) f) → Steps g m e false m
-    another = other g m ready e range i here (range .processor) refl
+      here : Fetched g (i .processor) (getD (m .at) (i .processor) 0) i
+      here = standing.here _ _ _ _ _ _ ready p h some i read
 
-    pub onwards : Onward (m .at) (m .phase) (i .kind) p
-    onwards = onward g m ready i here (range .processor)
+      own-low : i .processor < processors
+      own-low = standing.own-low _ _ _ _ _ _ ready p h some i read
 
-    module _ (n : ¬ (e .kind ≡ 3)) (is : e .kind ≡ stepKind (i .kind) f) where
-      pub may-take : MayTake (m .locations) (m .values) (m .issued) (m .drained) i (e .kind)
-      may-take = record {
-        log = log;
-        register = here .register;
-        location = here .location;
-        write = λ z. record { processor = range .processor; few = room g m ready i here (range .processor) l (sym is ∙ z) };
-        some = range .kind;
-        known = rw is (by-kind (λ k. k < 8) (lit< tt) (lit< tt) (lit< tt) (lit< tt) (lit< tt) (lit< tt) (i .kind) f known inside);
-        program = n;
-      }
+      pub known-kind : (i .kind < tableRows) × (getD marks (phaseAt p) 0 < phases)
+      known-kind = (here .kind, standing.low-phase _ _ _ _ _ _ ready p h)
 
-      module _ (r : e .register ≡ 0) (b : Bool) (registers' kept' locations' values' issued' : List ℕ) (holder' : ℕ)
-          (t : TakesNext (m .registers) (m .memory) (m .kept) (m .locations) (m .values) (m .issued) (m .drained) (m .holder) i (event (e .kind) p (e .location) (e .value)) b registers' kept' locations' values' issued' holder') where
-        whole : event (e .kind) p (e .location) (e .value) ≡ e
-        whole = λ j. record { kind = e .kind; processor = p; register = sym r j; location = e .location; value = e .value }
+      kind-is : stepKind (i .kind) (getD marks (phaseAt p) 0) ≡ stepKind (i .kind) (getD (m .phase) (i .processor) 0)
+      kind-is = standing.kind-is _ _ _ _ _ _ ready p h some i read
 
-        test-is : b ≡ nextAllowed m i e
-        test-is = t .says (m .at) (m .phase) ∙ ap (nextAllowed m i) whole
+      pub another : ¬ (e .kind ≡ 3) → ¬ (e .kind ≡ stepKind (i .kind) (getD marks (phaseAt p) 0)) → Steps g m e (Turned NotAllowed) m
+      another n z = other g m ready e proper i here own-low (sym its) n (λ w. z (w ∙ sym kind-is))
 
-        abbrev then : Machine
-        then = parts registers' (m .memory) kept' (m .at) (m .phase) locations' values' issued' (m .drained) holder'
+      module _ (n : ¬ (e .kind ≡ 3)) (next : e .kind ≡ stepKind (i .kind) (getD marks (phaseAt p) 0)) where
+        pub may-take : MayTake locations values marks i e
+        may-take = record {
+          proper = proper;
+          program = n;
+          own = its;
+          log = standing.log _ _ _ _ _ _ ready p h;
+          held = standing.held _ _ _ _ _ _ ready p h;
+          register = here .register;
+          location = here .location;
+          write = λ z. standing.issuable _ _ _ _ _ _ ready p h some i read (sym next ∙ z);
+        }
 
-        then-is : then ≡ cond b (carriedOut m i e) m
-        then-is = t .after (m .at) (m .phase) ∙ ap (λ (w : Event). cond b (carriedOut m i w) m) whole
+        module _ (r : Attempt) (cells' locations' values' marks' : List ℕ) (t : TakesNext m i e r (stateIn cells' locations' values' marks')) where
+          pub onwards : Onward marks' (i .kind) p
+          onwards = standing.onwards _ _ _ _ _ _ ready p h some i read cells' locations' values' marks' (subst (Stays m) (sym (t .after)) (go r))
+            where
+              go : (a : Attempt) → Stays m (cond (taken a) (carriedOut m i e) m)
+              go Taken = stays m i e
+              go (Turned why) = (refl, refl)
 
-        pub takes-it : b ≡ true → (at' phase' : List ℕ) → at' ≡ nextAt (m .at) (m .phase) (i .kind) p → phase' ≡ nextPhase (m .phase) (i .kind) p
-            → Steps g m e true (parts registers' (m .memory) kept' at' phase' locations' values' issued' (m .drained) holder')
-        takes-it y at' phase' ea ef =
-            taken-at g m ready e range i here (range .processor) refl n is true (sym y ∙ test-is) _
-            (rw (ea, ef) (ap (λ (c : Machine). advancedIn c i) (then-is ∙ ap (λ (c : Bool). cond c (carriedOut m i e) m) y)))
+          after : (a : Attempt) → r ≡ a → stateIn cells' locations' values' marks' ≡ cond (taken a) (carriedOut m i e) m
+          after a y = t .after ∙ ap (λ (a : Attempt). cond (taken a) (carriedOut m i e) m) y
 
-        pub turns-it : b ≡ false → Steps g m e false then
-        turns-it y = taken-at g m ready e range i here (range .processor) refl n is false (sym y ∙ test-is) then (then-is ∙ ap (λ (c : Bool). cond c (carriedOut m i e) m) y)
+          pub takes-it : r ≡ Taken → (marks'' : List ℕ) → marks'' ≡ advanced marks' (i .kind) p → Steps g m e Taken (stateIn cells' locations' values' marks'')
+          takes-it y marks'' f =
+              taken-at g m ready e proper i here own-low (sym its) n (next ∙ kind-is) Taken (sym y ∙ t .says) _
+              (ap (stateIn cells' locations' values') (f ∙ ap (advanced marks' (i .kind)) (sym its)) ∙ stored.advanced-is cells' locations' values' marks' i own-low
+              ∙ ap (λ (s : State). advancedIn s i) (after Taken y))
+
+          pub turns-it : (why : Refusal) → r ≡ Turned why → Steps g m e (Turned why) (stateIn cells' locations' values' marks')
+          turns-it why y = taken-at g m ready e proper i here own-low (sym its) n (next ∙ kind-is) (Turned why) (sym y ∙ t .says) _ (after (Turned why) y)

@@ -10,12 +10,11 @@ use lib.Seq.{drop-nil}
 use lib.Dec.{eqb, leb, lit<}
 use borrow.Author.Tests.{eqb-true, eqb-false}
 use Rattle.model.specs.declared.record.Record.{Record}
-use Rattle.model.specs.declared.table.Program.{Program}
 use Rattle.model.specs.Program.{ProgramStep, read, write, fence, lock, unlock, local, Target, into, aside, Source, constant, register, swapped, added}
 use Rattle.model.specs.Sizes.{processors}
 use Rattle.model.specs.Kinds.{tableRows, entryOf}
 use Rattle.model.specs.Machine.{Processor, issued}
-use Rattle.model.specs.Code.{stepsIn, instructionAt, stepsFrom, countIn, Fits}
+use Rattle.model.specs.Code.{Columns, stepsIn, instructionAt, stepsFrom, countIn, Fits}
 use Rattle.model.proofs.Rows.{AllBelow, below}
 use Rattle.model.proofs.Columns.{stepsAt, entry-weight, next-phase, next-instruction}
 use Rattle.rules.specs.Guards.{issuedBy}
@@ -96,7 +95,7 @@ by-kind K r w e l u n k f h o =
 
 -- ---- at instruction a, of which f steps are taken
 
-module _ (g : Program) (p a f : ℕ) where
+module _ (g : Columns) (p a f : ℕ) where
   -- after one step more
   abbrev pub restAt : List ProgramStep
   restAt = drop (suc f) (stepsFrom g p a (countIn g p - a))
@@ -127,7 +126,7 @@ module _ (g : Program) (p a f : ℕ) where
 -- ---- where a processor may stand
 
 -- at the first step of an instruction
-pub stands-first : (g : Program) (p a : ℕ) → Fits g → p < processors → a ≤ countIn g p → Stands g p a 0
+pub stands-first : (g : Columns) (p a : ℕ) → Fits g → p < processors → a ≤ countIn g p → Stands g p a 0
 stands-first g p a fits h l = record {
   at = l;
   phase = lit< tt;
@@ -135,7 +134,7 @@ stands-first g p a fits h l = record {
 }
 
 -- past one step
-pub stands-next : (g : Program) (p a f : ℕ) → Fits g → p < processors → Stands g p a f → a < countIn g p
+pub stands-next : (g : Columns) (p a f : ℕ) → Fits g → p < processors → Stands g p a f → a < countIn g p
     → (b : Bool) → eqb (f + 1) (stepCount (instructionAt g p a .kind)) ≡ b → Stands g p (cond b (a + 1) a) (cond b 0 (f + 1))
 stands-next g p a f fits h s l true e = stands-first g p (a + 1) fits h (omega arith)
 stands-next g p a f fits h s l false e =

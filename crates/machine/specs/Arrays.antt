@@ -1,4 +1,4 @@
--- A state as its arrays. i is the instruction that a processor stands at.
+-- The state at the start, and the steps that a processor can come to. i is the instruction that a processor stands at.
 use mathlib.Core.Bool.{Bool}
 use mathlib.Core.List.{List}
 use Prim.Native.Nat.{ℕ, _*_}
@@ -11,24 +11,10 @@ use Rattle.model.specs.Sizes.{processors, instructionsEach}
 use Rattle.model.specs.Rules.{Event}
 use Rattle.rules.specs.Offers.{oldestIn, nextIn, offeredIn}
 use Rattle.rules.specs.Guards.{nobody}
-use Rattle.machine.specs.declared.state.Machine.{Machine}
-
-abbrev pub parts : (registers memory kept at phase locations values issued drained : List ℕ) (holder : ℕ) → Machine
-parts registers memory kept at phase locations values issued drained holder = record {
-  registers = registers;
-  memory = memory;
-  kept = kept;
-  at = at;
-  phase = phase;
-  locations = locations;
-  values = values;
-  issued = issued;
-  drained = drained;
-  holder = holder;
-}
+use Rattle.machine_state.specs.State.{State, parts}
 
 -- nothing taken, nothing waiting, the lock free
-abbrev pub startIn : Cells → Machine
+abbrev pub startIn : Cells → State
 startIn c =
     let zeros : List ℕ = replicate processors 0 in
     let log : List ℕ = replicate (processors * instructionsEach) 0 in
@@ -36,24 +22,24 @@ startIn c =
 
 -- ---- the step that a processor can come to in it
 
-abbrev pub issuedNow : Machine → Record → ℕ
+abbrev pub issuedNow : State → Record → ℕ
 issuedNow m i = getD (m .issued) (i .processor) 0
 
-abbrev pub drainedNow : Machine → Record → ℕ
+abbrev pub drainedNow : State → Record → ℕ
 drainedNow m i = getD (m .drained) (i .processor) 0
 
-abbrev pub isDry : Machine → Record → Bool
+abbrev pub isDry : State → Record → Bool
 isDry m i = eqb (drainedNow m i) (issuedNow m i)
 
-abbrev pub oldestOf : Machine → Record → Event
+abbrev pub oldestOf : State → Record → Event
 oldestOf m i = oldestIn (m .locations) (m .values) (issuedNow m i) (drainedNow m i) (i .processor)
 
-abbrev pub nextOf : Machine → Record → ℕ → Event
+abbrev pub nextOf : State → Record → ℕ → Event
 nextOf m i k =
     nextIn (m .locations) (m .values) (issuedNow m i) (drainedNow m i) (getD (m .kept) (i .processor) 0) (getD (m .registers) (registerOf i) 0)
     (getD (m .memory) (i .location) 0) i k
 
-abbrev pub offeredOf : Machine → Record → ℕ → Event
+abbrev pub offeredOf : State → Record → ℕ → Event
 offeredOf m i k =
     offeredIn (m .locations) (m .values) (issuedNow m i) (drainedNow m i) (getD (m .kept) (i .processor) 0) (getD (m .registers) (registerOf i) 0)
     (getD (m .memory) (i .location) 0) i (getD (m .phase) (i .processor) 0) k

@@ -1,19 +1,18 @@
 -- What holds of the arrays at every step, and what a step promises.
 use mathlib.Core.Path.{_≡_}
 use Prim.Native.Nat.{ℕ, _+_, _*_, _≤_, _<_}
-use mathlib.Core.Bool.{Bool, true, false}
+use mathlib.Core.Bool.{false}
 use lib.ListN.{length, getD}
+use Rattle.model.specs.declared.answer.Attempt.{Attempt}
 use Rattle.model.specs.declared.record.Record.{Record}
 use Rattle.model.specs.Sizes.{processors, registersEach, locations, instructionsEach}
-use Rattle.model.specs.declared.table.Program.{Program}
-use Rattle.model.specs.Machine as model
 use Rattle.model.specs.Left.{writes}
-use Rattle.model.specs.Step.{Stepped, took, turned, step}
-use Rattle.model.specs.Code.{instructionAt, countIn, Fits}
+use Rattle.model.specs.Step.{step}
+use Rattle.model.specs.Code.{Columns, instructionAt, countIn, Fits, taken, steppedOf}
 use Rattle.model.specs.Rules.{Event}
-use Rattle.machine.specs.declared.state.Machine.{Machine}
 use Rattle.rules.specs.Steps.{phases, stepCount}
 use Rattle.machine.specs.View.{todoIn, machineOf}
+use Rattle.machine_state.specs.State.{State}
 
 -- an instruction's own register
 pub record Own (i : Record) : Type 0 where
@@ -22,7 +21,7 @@ pub record Own (i : Record) : Type 0 where
 
 -- ---- at every step, where g has the programs
 
-pub record Long (m : Machine) : Type 0 where
+pub record Long (m : State) : Type 0 where
   pub registers : length (m .registers) ≡ processors * registersEach
   pub memory : length (m .memory) ≡ locations
   pub kept : length (m .kept) ≡ processors
@@ -34,19 +33,19 @@ pub record Long (m : Machine) : Type 0 where
   pub drained : length (m .drained) ≡ processors
 
 -- processor p may stand at instruction a, of which f program steps are taken
-pub record Stands (g : Program) (p a f : ℕ) : Type 0 where
+pub record Stands (g : Columns) (p a f : ℕ) : Type 0 where
   pub at : a ≤ countIn g p
   pub phase : f < phases
   pub inside : a < countIn g p → f < stepCount (instructionAt g p a .kind)
 
 -- of processor p: the writes issued and those to come have places in the log, and it stands inside its instruction
-pub record ReadyAt (g : Program) (m : Machine) (p : ℕ) : Type 0 where
+pub record ReadyAt (g : Columns) (m : State) (p : ℕ) : Type 0 where
   pub order : getD (m .drained) p 0 ≤ getD (m .issued) p 0
   pub room : getD (m .issued) p 0 + writes (todoIn g m p) ≤ instructionsEach
   pub stands : Stands g p (getD (m .at) p 0) (getD (m .phase) p 0)
 
 -- of all four, and every location in the log is one of the eight
-pub record Ready (g : Program) (m : Machine) : Type 0 where
+pub record Ready (g : Columns) (m : State) : Type 0 where
   pub fits : Fits g
   pub long : Long m
   pub inLog : (n : ℕ) → getD (m .locations) n 0 < locations
@@ -54,16 +53,8 @@ pub record Ready (g : Program) (m : Machine) : Type 0 where
 
 -- ---- a step
 
-pub record WellFormed (e : Event) : Type 0 where
-  pub kind : 0 < e .kind
-  pub processor : e .processor < processors
-
-abbrev pub steppedAs : Bool → model.Machine → Stepped
-steppedAs true t = took t
-steppedAs false t = turned 11
-
 -- from the state m to the state n: the machine takes the step e, or turns it down and stays
-pub record Steps (g : Program) (m : Machine) (e : Event) (taken : Bool) (n : Machine) : Type 0 where
-  pub says : step (machineOf g m) e ≡ steppedAs taken (machineOf g n)
+pub record Steps (g : Columns) (m : State) (e : Event) (r : Attempt) (n : State) : Type 0 where
+  pub says : step (machineOf g m) e ≡ steppedOf r (machineOf g n)
   pub ready : Ready g n
-  pub kept : taken ≡ false → n ≡ m
+  pub kept : taken r ≡ false → n ≡ m

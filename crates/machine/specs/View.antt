@@ -4,36 +4,35 @@ use mathlib.Core.List.{List}
 use Prim.Native.Nat.{ℕ, _-_}
 use lib.ListN.{getD, drop}
 use lib.Dec.{eqb}
-use Rattle.model.specs.declared.table.Program.{Program}
 use Rattle.model.specs.Sizes.{processors, registersEach}
 use Rattle.model.specs.Program.{ProgramStep}
 use Rattle.model.specs.Machine as model
 use Rattle.model.specs.Machine.{WaitingWrite, Processor, Holder, free, held}
-use Rattle.model.specs.Code.{row, four, stepsFrom, countIn}
+use Rattle.model.specs.Code.{Columns, row, four, stepsFrom, countIn}
 use Rattle.rules.specs.Guards.{nobody}
 use Rattle.rules.specs.Offers.{writesIn, waitingFrom}
-use Rattle.machine.specs.declared.state.Machine.{Machine}
+use Rattle.machine_state.specs.State.{State}
 
 -- the writes of processor p that wait, oldest first
-unfoldable pub waitingIn : Machine → ℕ → List WaitingWrite
+unfoldable pub waitingIn : State → ℕ → List WaitingWrite
 unfolding writesIn
 waitingIn m p = waitingFrom (m .locations) (m .values) (getD (m .issued) p 0) (getD (m .drained) p 0) p
 
 -- what is left of its program at instruction a, of which f program steps are taken
-abbrev pub leftFrom : Program → ℕ → ℕ → ℕ → List ProgramStep
+abbrev pub leftFrom : Columns → ℕ → ℕ → ℕ → List ProgramStep
 leftFrom g p a f = drop f (stepsFrom g p a (countIn g p - a))
 
-unfoldable pub todoIn : Program → Machine → ℕ → List ProgramStep
+unfoldable pub todoIn : Columns → State → ℕ → List ProgramStep
 unfolding stepsFrom
 todoIn g m p = leftFrom g p (getD (m .at) p 0) (getD (m .phase) p 0)
 
-unfoldable pub processorOf : Program → Machine → ℕ → Processor
+unfoldable pub processorOf : Columns → State → ℕ → Processor
 unfolding todoIn waitingIn
 processorOf g m p = record { todo = todoIn g m p; kept = getD (m .kept) p 0; registers = row registersEach p (m .registers); waiting = waitingIn m p }
 
 unfoldable pub holderOf : ℕ → Holder
 holderOf h = cond (eqb h nobody) free (held h)
 
-unfoldable pub machineOf : Program → Machine → model.Machine
+unfoldable pub machineOf : Columns → State → model.Machine
 unfolding processorOf holderOf
 machineOf g m = record { processors = four (processorOf g m); memory = m .memory; holder = holderOf (m .holder) }

@@ -1,4 +1,3 @@
-// The x86-TSO machine: its state in plain arrays, and one step.
+// The x86-TSO machine: one step.
 mod next;
-pub mod state;
 pub mod step;

@@ -1,86 +1,51 @@
 // One step.
-ghost use Rattle.model.specs.Code.{columns};
-ghost use Rattle.machine.specs.Arrays.{parts};
-ghost use Rattle.machine.specs.Ready.{Ready, WellFormed, Steps};
+ghost use Rattle.model.specs.Fields.{Proper};
+ghost use Rattle.model.specs.Kinds.{stepUses};
+ghost use Rattle.machine_state.specs.Packed.{stateIn, columnsIn};
+ghost use Rattle.machine.specs.Ready.{Ready, Steps};
 use crate::next;
-use effects::take;
+use machine_state::program as programs;
+use machine_state::state::Machine;
+use model::answer::Attempt;
+use model::answer::Refusal;
 use model::record::Record;
-use model::table::Cells;
 use model::table::Program;
 use rules::program;
 use rules::program::DRAIN;
 
-// The step e on the arrays of a state, where kinds to counts are the columns of the program. Answers whether it is taken; if not, nothing changes.
-pub fn step_parts<'a>(
-    kinds: &'a [u8; Program::PLACES],
-    operands: &'a [u8; Program::PLACES],
-    targets: &'a [u8; Program::PLACES],
+// Attempts the step e. If it is turned down, nothing changes.
+pub fn step<'a>(
+    codes: &'a [u8; Program::CODES],
     constants: &'a [u32; Program::PLACES],
-    counts: &'a [usize; Program::PROCESSORS],
-    registers: &'a mut [u32; Cells::ALL_REGISTERS],
-    memory: &'a mut [u32; Cells::LOCATIONS],
-    kept: &'a mut [u32; Program::PROCESSORS],
-    at: &'a mut [usize; Program::PROCESSORS],
-    phase: &'a mut [usize; Program::PROCESSORS],
+    cells: &'a mut [u32; Machine::CELLS],
     locations: &'a mut [u8; Program::PLACES],
     values: &'a mut [u32; Program::PLACES],
-    issued: &'a mut [usize; Program::PROCESSORS],
-    drained: &'a mut [usize; Program::PROCESSORS],
-    holder: &'a mut usize,
+    marks: &'a mut [usize; Machine::MARKS],
     e: Record,
-) -> bool
-    requires { ⌜ Ready (columns (now kinds) (now operands) (now targets) (now constants) (now counts)) (parts (now registers) (now memory) (now kept) (now at) (now phase) (now locations) (now values) (now issued) (now drained) (now holder)) × WellFormed e ⌝ }
-    ensures { λ taken. ⌜ Steps (columns (now (kinds .entry)) (now (operands .entry)) (now (targets .entry)) (now (constants .entry)) (now (counts .entry))) (parts (now (registers .entry)) (now (memory .entry)) (now (kept .entry)) (now (at .entry)) (now (phase .entry)) (now (locations .entry)) (now (values .entry)) (now (issued .entry)) (now (drained .entry)) (now (holder .entry))) e taken (parts (now (registers .exit)) (now (memory .exit)) (now (kept .exit)) (now (at .exit)) (now (phase .exit)) (now (locations .exit)) (now (values .exit)) (now (issued .exit)) (now (drained .exit)) (now (holder .exit))) ⌝ }
+) -> Attempt
+    requires { ⌜ Ready (columnsIn (now codes) (now constants)) (stateIn (now cells) (now locations) (now values) (now marks))
+        × Proper stepUses e ⌝ }
+    ensures { λ r. ⌜ Steps (columnsIn (now (codes .entry)) (now (constants .entry)))
+        (stateIn (now (cells .entry)) (now (locations .entry)) (now (values .entry)) (now (marks .entry)))
+        e r (stateIn (now (cells .exit)) (now (locations .exit)) (now (values .exit)) (now (marks .exit))) ⌝ }
 {
-    let p = e.processor as usize;
-    if e.register != 0 {
-        return false;
-    }
     if e.kind == DRAIN {
-        return take::drain(
-            memory,
-            drained,
-            locations,
-            values,
-            issued[p],
-            *holder,
-            p,
-            e.location,
-            e.value,
-        );
+        return machine_take::drain(cells, locations, values, marks, e);
     }
-    let a = at[p];
-    if counts[p] <= a {
-        return false;
+    let p = e.processor as usize;
+    let a = marks[Machine::AT + p];
+    if programs::count(codes, p) <= a {
+        return Attempt::Turned(Refusal::NotAllowed);
     }
-    let place = Program::INSTRUCTIONS * p + a;
-    let kind = kinds[place];
-    let r = operands[place];
-    let y = targets[place];
-    let constant = constants[place];
-    if e.kind != program::step_kind(kind, phase[p]) {
-        return false;
+    let i = programs::instruction(codes, constants, p, a);
+    if e.kind != program::step_kind(i.kind, marks[Machine::PHASE + p]) {
+        return Attempt::Turned(Refusal::NotAllowed);
     }
-    if next::take_next(
-        registers,
-        memory,
-        kept,
-        locations,
-        values,
-        issued,
-        drained,
-        holder,
-        kind,
-        p,
-        r,
-        y,
-        constant,
-        e.kind,
-        e.location,
-        e.value,
-    ) {
-        store::advance(at, phase, kind, p);
-        return true;
+    match next::take_next(cells, locations, values, marks, i, e) {
+        Attempt::Taken => {
+            machine_store::advance(marks, i.kind, p);
+            Attempt::Taken
+        }
+        Attempt::Turned(why) => Attempt::Turned(why),
     }
-    false
 }

@@ -7,15 +7,14 @@ use native.Mathlib.Nat.{add-zero}
 use lib.ListN.{length, getD, drop}
 use lib.Dec.{lit≤}
 use lib.Seq.{drop-cons, drop-append-le, drop-append-seam}
-use Rattle.model.specs.declared.table.Program.{Program}
 use Rattle.model.specs.Program.{ProgramStep, fence}
 use Rattle.model.specs.Kinds.{Entry, initialMemory, initialRegister, instruction, entryOf}
 use Rattle.model.specs.Left.{writes}
-use Rattle.model.specs.Code.{stepsIn, instructionAt, stepsFrom}
+use Rattle.model.specs.Code.{Columns, stepsIn, instructionAt, stepsFrom}
 use Rattle.model.proofs.Sizes.{writes-append, weight}
 
 -- the program steps of instruction a of processor p
-abbrev pub stepsAt : Program → ℕ → ℕ → List ProgramStep
+abbrev pub stepsAt : Columns → ℕ → ℕ → List ProgramStep
 stepsAt g p a = stepsIn (entryOf (instructionAt g p a))
 
 -- at most four steps, and at most one write
@@ -25,7 +24,7 @@ entry-weight (initialMemory x v) = (lit≤ tt, lit≤ tt)
 entry-weight (initialRegister p r v) = (lit≤ tt, lit≤ tt)
 entry-weight (instruction p i) = weight i
 
-pub few-writes : (g : Program) (p a n : ℕ) → writes (stepsFrom g p a n) ≤ n
+pub few-writes : (g : Columns) (p a n : ℕ) → writes (stepsFrom g p a n) ≤ n
 unfolding stepsFrom writes
 few-writes g p a zero = lit≤ tt
 few-writes g p a (suc n) =
@@ -35,7 +34,7 @@ few-writes g p a (suc n) =
 
 -- ---- what is left at instruction a, of which f steps are taken, where n instructions come after it
 
-pub next-phase : (g : Program) (p a n f : ℕ) → f < length (stepsAt g p a)
+pub next-phase : (g : Columns) (p a n f : ℕ) → f < length (stepsAt g p a)
     → drop f (stepsFrom g p a (suc n)) ≡ getD (stepsAt g p a) f fence ∷ drop (suc f) (stepsFrom g p a (suc n))
 unfolding stepsFrom
 next-phase g p a n f h =
@@ -46,13 +45,13 @@ next-phase g p a n f h =
       drop-cons (stepsAt g p a) f fence h,
     )
 
-pub next-instruction : (g : Program) (p a n : ℕ) → drop (length (stepsAt g p a)) (stepsFrom g p a (suc n)) ≡ stepsFrom g p (suc a) n
+pub next-instruction : (g : Columns) (p a n : ℕ) → drop (length (stepsAt g p a)) (stepsFrom g p a (suc n)) ≡ stepsFrom g p (suc a) n
 unfolding stepsFrom
 next-instruction g p a n = drop-append-seam (stepsAt g p a) (stepsFrom g p (suc a) n)
 
 -- ---- the last instruction, and the same instructions in other columns
 
-pub steps-more : (g : Program) (p a n : ℕ) → stepsFrom g p a (suc n) ≡ stepsFrom g p a n ++ stepsAt g p (a + n)
+pub steps-more : (g : Columns) (p a n : ℕ) → stepsFrom g p a (suc n) ≡ stepsFrom g p a n ++ stepsAt g p (a + n)
 unfolding stepsFrom
 steps-more g p a zero = append-nil (stepsAt g p a) ∙ ap (stepsAt g p) (sym (add-zero a))
 steps-more g p a (suc n) =
@@ -60,7 +59,7 @@ steps-more g p a (suc n) =
     ap (λ (l : List ProgramStep). stepsAt g p a ++ l) (steps-more g p (suc a) n ∙ ap (λ (b : ℕ). stepsFrom g p (suc a) n ++ stepsAt g p b) e)
     ∙ sym (append-assoc (stepsAt g p a) (stepsFrom g p (suc a) n) (stepsAt g p (a + suc n)))
 
-pub steps-same : (g h : Program) (p a n : ℕ) → ((i : ℕ) → i < a + n → instructionAt h p i ≡ instructionAt g p i) → stepsFrom h p a n ≡ stepsFrom g p a n
+pub steps-same : (g h : Columns) (p a n : ℕ) → ((i : ℕ) → i < a + n → instructionAt h p i ≡ instructionAt g p i) → stepsFrom h p a n ≡ stepsFrom g p a n
 unfolding stepsFrom
 steps-same g h p a zero e = refl
 steps-same g h p a (suc n) e = λ i. stepsIn (entryOf (e a (omega arith) i)) ++ steps-same g h p (suc a) n (λ j l. e j (omega arith)) i

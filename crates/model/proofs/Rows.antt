@@ -90,7 +90,7 @@ four-set f g (suc (suc (suc (suc p)))) a h e o = absurd (omega arith)
 
 -- ---- four rows are the whole array
 
-slices : (a b : ℕ) (xs : List ℕ) → a ≤ b → take a xs ++ slice a b xs ≡ take b xs
+pub slices : (a b : ℕ) (xs : List ℕ) → a ≤ b → take a xs ++ slice a b xs ≡ take b xs
 slices a b xs h = ap (λ (l : List ℕ). l ++ slice a b xs) (sym (take-take a b xs h)) ∙ take-append-drop a (take b xs)
 
 pub rows-whole : (xs : List ℕ) → length xs ≡ 16 → row 4 0 xs ++ (row 4 1 xs ++ (row 4 2 xs ++ (row 4 3 xs ++ []))) ≡ xs

@@ -1,19 +1,23 @@
--- What the code's types stand for: verdicts, programs in columns, cells. Only contracts inside the repository speak of them.
+-- What the code's types stand for: verdicts, attempted steps, programs in columns, cells. Only contracts inside the repository speak of them.
 use mathlib.Core.Path.{_≡_}
+use mathlib.Core.Bool.{Bool, true, false}
 use mathlib.Core.List.{List, [], _∷_, _++_}
 use Prim.Native.Nat.{ℕ, zero, suc, _+_, _*_, _≤_, _<_}
 use lib.ListN.{length, getD}
 use lib.Seq.{slice}
 use Rattle.model.specs.declared.record.Record.{Record}
+use Rattle.model.specs.declared.answer.Refusal.the-variants.{NotAllowed}
+use Rattle.model.specs.declared.answer.Attempt.{Attempt}
+use Rattle.model.specs.declared.answer.Attempt.the-variants.{Taken, Turned}
 use Rattle.model.specs.declared.answer.Verdict.{Verdict}
 use Rattle.model.specs.declared.answer.Verdict.the-variants.{Passed, Refused}
-use Rattle.model.specs.declared.table.Program.{Program}
 use Rattle.model.specs.declared.table.Cells.{Cells}
 use Rattle.model.specs.Sizes.{processors, registersEach, locations, instructionsEach}
 use Rattle.model.specs.Program.{ProgramStep, stepsOf}
 use Rattle.model.specs.Kinds.{Entry, initialMemory, initialRegister, instruction, tableRows, entryOf}
 use Rattle.model.specs.Machine.{Processor, Machine, free}
 use Rattle.model.specs.Reply.{numberOf}
+use Rattle.model.specs.Step.{Stepped, took, turned}
 use Rattle.model.specs.Tests.{Test, first, Tested, passed, refused, unless}
 
 -- ---- verdicts
@@ -26,6 +30,22 @@ testedOf (Refused why place) a = refused (numberOf why) place
 -- v is what these tests give at place i
 pub record Gives (v : Verdict) (tests : List Test) (i : ℕ) : Type 0 where
   pub says : testedOf {A = Unit {0}} v tt ≡ unless (first tests) i (passed tt)
+
+-- ---- attempted steps
+
+abbrev pub taken : Attempt → Bool
+taken Taken = true
+taken (Turned why) = false
+
+-- what the rules say of a step that is allowed, or not
+abbrev pub judged : Bool → Attempt
+judged true = Taken
+judged false = Turned NotAllowed
+
+-- an attempt, with the machine that there is to go on with if it is taken
+abbrev pub steppedOf : Attempt → Machine → Stepped
+steppedOf Taken t = took t
+steppedOf (Turned why) t = turned (numberOf why)
 
 -- ---- arrays
 
@@ -47,8 +67,15 @@ four f = f 0 ∷ f 1 ∷ f 2 ∷ f 3 ∷ []
 
 -- ---- programs
 
--- a program of these columns
-abbrev pub columns : (kinds registers locations values counts : List ℕ) → Program
+-- in columns, one of each field of the instructions' records; and how many instructions each processor has
+pub record Columns : Type 0 where
+  pub kinds : List ℕ
+  pub registers : List ℕ
+  pub locations : List ℕ
+  pub values : List ℕ
+  pub counts : List ℕ
+
+abbrev pub columns : (kinds registers locations values counts : List ℕ) → Columns
 columns kinds registers locations values counts = record { kinds = kinds; registers = registers; locations = locations; values = values; counts = counts }
 
 -- an entry that is no instruction has no program steps
@@ -63,26 +90,26 @@ abbrev pub instructionOf : (kind p register location value : ℕ) → Record
 instructionOf kind p register location value = record { kind = kind; processor = p; register = register; location = location; value = value }
 
 -- instruction a of processor p, as its table record gave it
-unfoldable pub instructionAt : Program → ℕ → ℕ → Record
+unfoldable pub instructionAt : Columns → ℕ → ℕ → Record
 instructionAt g p a = let at = placeAt p a in instructionOf (getD (g .kinds) at 0) p (getD (g .registers) at 0) (getD (g .locations) at 0) (getD (g .values) at 0)
 
 -- the program steps of n instructions of processor p, from instruction a on
-unfoldable pub stepsFrom : Program → ℕ → ℕ → ℕ → List ProgramStep
+unfoldable pub stepsFrom : Columns → ℕ → ℕ → ℕ → List ProgramStep
 unfolding stepsIn instructionAt entryOf
 stepsFrom g p a zero = []
 stepsFrom g p a (suc n) = stepsIn (entryOf (instructionAt g p a)) ++ stepsFrom g p (suc a) n
 
 -- how many instructions processor p has
-abbrev pub countIn : Program → ℕ → ℕ
+abbrev pub countIn : Columns → ℕ → ℕ
 countIn g p = getD (g .counts) p 0
 
 -- ---- the machine at the start
 
-unfoldable pub processorAtStart : Program → Cells → ℕ → Processor
+unfoldable pub processorAtStart : Columns → Cells → ℕ → Processor
 unfolding stepsFrom
 processorAtStart g c p = record { todo = stepsFrom g p 0 (countIn g p); kept = 0; registers = row registersEach p (c .registers); waiting = [] }
 
-unfoldable pub startOf : Program → Cells → Machine
+unfoldable pub startOf : Columns → Cells → Machine
 unfolding processorAtStart
 startOf g c = record { processors = four (processorAtStart g c); memory = c .memory; holder = free }
 
@@ -95,7 +122,7 @@ pub record Fit (r : Record) : Type 0 where
   pub register : r .register < registersEach
   pub location : r .location < locations
 
-pub record Fits (g : Program) : Type 0 where
+pub record Fits (g : Columns) : Type 0 where
   pub kinds : length (g .kinds) ≡ processors * instructionsEach
   pub registers : length (g .registers) ≡ processors * instructionsEach
   pub locations : length (g .locations) ≡ processors * instructionsEach

@@ -26,3 +26,9 @@ pub enum Verdict {
     Passed,
     Refused(Refusal, usize),
 }
+
+// A step is taken, or turned down: why.
+pub enum Attempt {
+    Taken,
+    Turned(Refusal),
+}

@@ -4,13 +4,11 @@ ghost use mathlib.Core.List.{[], _∷_};
 ghost use Rattle.model.specs.Sizes.{processors, registersEach, locations, instructionsEach, resultWords, recordSize, longestTrace};
 use crate::record::Record;
 
-// The instructions as their table records give them, in columns: those of processor p at INSTRUCTIONS * p and on, counts[p] of them.
+// The instructions as their table records give them, those of processor p at INSTRUCTIONS * p and on: in `codes` all kinds, then all registers, all
+// locations, and how many instructions each processor has; their values in `constants`.
 pub struct Program {
-    pub kinds: [u8; Program::PLACES],
-    pub registers: [u8; Program::PLACES],
-    pub locations: [u8; Program::PLACES],
-    pub values: [u32; Program::PLACES],
-    pub counts: [usize; Program::PROCESSORS],
+    pub codes: [u8; Program::CODES],
+    pub constants: [u32; Program::PLACES],
 }
 
 impl Program {
@@ -20,6 +18,15 @@ impl Program {
     pub const INSTRUCTIONS: usize = 16;
 
     pub const PLACES: usize = Self::PROCESSORS * Self::INSTRUCTIONS;
+
+    // Where in `codes` the registers, the locations and the counts begin, and how long it is.
+    pub const OPERANDS: usize = Self::PLACES;
+
+    pub const TARGETS: usize = Self::OPERANDS + Self::PLACES;
+
+    pub const COUNTS: usize = Self::TARGETS + Self::PLACES;
+
+    pub const CODES: usize = Self::COUNTS + Self::PROCESSORS;
 
     // Steps in the longest finished trace: no instruction takes more than five.
     pub const LONGEST: usize = Self::PLACES * 5;

@@ -5,11 +5,10 @@ use Prim.Native.Nat.{ℕ, _<_}
 use lib.Dec.{ltb, lit<}
 use borrow.Author.Tests.{ltb-true}
 use Rattle.model.specs.declared.record.Record.{Record}
-use Rattle.model.specs.declared.table.Program.{Program}
 use Rattle.model.specs.Sizes.{processors, registersEach, locations}
 use Rattle.model.specs.Kinds.{tableRows}
 use Rattle.model.specs.Rules.{event}
-use Rattle.model.specs.Code.{instructionAt, countIn, Fits}
+use Rattle.model.specs.Code.{Columns, instructionAt, countIn, Fits}
 use Rattle.rules.specs.Programs.{fetched, Fetched}
 
 record Ranged (p : ℕ) (i : Record) : Type 0 where
@@ -18,12 +17,12 @@ record Ranged (p : ℕ) (i : Record) : Type 0 where
   register : i .register < registersEach
   location : i .location < locations
 
-ranged : (g : Program) (p a : ℕ) → Fits g → p < processors → (b : Bool) → ltb a (countIn g p) ≡ b → Ranged p (cond b (instructionAt g p a) (event 0 p 0 0))
+ranged : (g : Columns) (p a : ℕ) → Fits g → p < processors → (b : Bool) → ltb a (countIn g p) ≡ b → Ranged p (cond b (instructionAt g p a) (event 0 p 0 0))
 unfolding instructionAt
 ranged g p a s h true e = let t = s .each p a h (ltb-true a (countIn g p) e) in record { processor = refl; kind = t .high; register = t .register; location = t .location }
 ranged g p a s h false e = record { processor = refl; kind = lit< tt; register = lit< tt; location = lit< tt }
 
-pub fetched-is : (g : Program) (p a : ℕ) → Fits g → p < processors → (i : Record) → i ≡ fetched g p a → Fetched g p a i
+pub fetched-is : (g : Columns) (p a : ℕ) → Fits g → p < processors → (i : Record) → i ≡ fetched g p a → Fetched g p a i
 unfolding fetched
 fetched-is g p a s h i e =
     let r = ranged g p a s h (ltb a (countIn g p)) refl in

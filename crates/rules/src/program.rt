@@ -53,8 +53,8 @@ const STEPS: [[u8; PHASES]; ROWS] = [
     [LOCK, READ, WRITE, UNLOCK], // 11 locked exchange-and-add
 ];
 
-// And how many they are.
-const COUNTS: [u8; ROWS] = [0, 0, 0, 1, 1, 1, 1, 1, 2, 4, 2, 4];
+// And how many they are. Numbers of two bytes take fewer stores to set up than bytes.
+const COUNTS: [u16; ROWS] = [0, 0, 0, 1, 1, 1, 1, 1, 2, 4, 2, 4];
 
 pub fn step_kind(kind: u8, phase: usize) -> u8
     requires { ⌜ (kind < tableRows) × (phase < phases) ⌝ }

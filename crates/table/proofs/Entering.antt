@@ -6,40 +6,39 @@ use native.Mathlib.Omega.{arith}
 use native.Mathlib.Numerals.{add-one}
 use lib.Seq.{getD-set-same, getD-set-other}
 use Rattle.model.specs.declared.record.Record.{Record}
-use Rattle.model.specs.declared.table.Program.{Program}
 use Rattle.model.specs.declared.table.Cells.{Cells}
 use Rattle.model.specs.Sizes.{processors, registersEach, instructionsEach}
 use Rattle.model.specs.Program.{Instruction}
 use Rattle.model.specs.Machine.{Processor, free, idle, processor, assigned, withProcessor, withCell}
 use Rattle.model.specs.Kinds.{Entry, initialMemory, initialRegister, instruction, entryOf}
 use Rattle.model.specs.Table.{extended, enter}
-use Rattle.model.specs.Code.{row, countIn, stepsIn, instructionAt, stepsFrom, processorAtStart, startOf, Fits}
+use Rattle.model.specs.Code.{Columns, row, countIn, stepsIn, instructionAt, stepsFrom, processorAtStart, startOf, Fits}
 use Rattle.model.proofs.Rows.{row-set, row-set-other, places-apart, four-get, four-set}
 use Rattle.model.proofs.Columns.{steps-more, steps-same}
-use Rattle.initial.specs.Given.{Formed}
-use Rattle.initial.specs.Cells.{withMemory, withRegister}
-use Rattle.entering.specs.Enter.{withInstruction}
+use Rattle.table_initial.specs.Given.{Formed}
+use Rattle.table_initial.specs.Cells.{withMemory, withRegister}
+use Rattle.table_enter.specs.Enter.{withInstruction}
 
 -- ---- one processor replaced
 
-own : (g : Program) (c : Cells) (p : ℕ) → p < processors → processor (startOf g c) p ≡ processorAtStart g c p
+own : (g : Columns) (c : Cells) (p : ℕ) → p < processors → processor (startOf g c) p ≡ processorAtStart g c p
 unfolding processor startOf
 own g c p h = four-get (processorAtStart g c) idle p h
 
-placed : (g h : Program) (c d : Cells) (p : ℕ) (P : Processor) → p < processors → d .memory ≡ c .memory → processorAtStart h d p ≡ P
+placed : (g h : Columns) (c d : Cells) (p : ℕ) (P : Processor) → p < processors → d .memory ≡ c .memory → processorAtStart h d p ≡ P
     → ((q : ℕ) → q < processors → ¬ (q ≡ p) → processorAtStart h d q ≡ processorAtStart g c q) → startOf h d ≡ withProcessor (startOf g c) p P
 unfolding startOf withProcessor
 placed g h c d p P l m e o = λ i. record { processors = four-set (processorAtStart g c) (processorAtStart h d) p P l e o i; memory = m i; holder = free }
 
 -- ---- initial memory
 
-pub memory-entered : (g : Program) (c : Cells) (r : Record) → startOf g (withMemory c r) ≡ enter (startOf g c) (initialMemory (r .location) (r .value))
+pub memory-entered : (g : Columns) (c : Cells) (r : Record) → startOf g (withMemory c r) ≡ enter (startOf g c) (initialMemory (r .location) (r .value))
 unfolding startOf processorAtStart enter withCell
 memory-entered g c r = refl
 
 -- ---- initial registers
 
-pub register-entered : (g : Program) (c : Cells) (r : Record) → Formed r
+pub register-entered : (g : Columns) (c : Cells) (r : Record) → Formed r
     → startOf g (withRegister c r) ≡ enter (startOf g c) (initialRegister (r .processor) (r .register) (r .value))
 unfolding enter assigned processorAtStart
 register-entered g c r f =
@@ -60,14 +59,14 @@ register-entered g c r f =
 
 -- ---- instructions
 
-module _ (g : Program) (r : Record) (f : Formed r) (fits : Fits g) (room : countIn g (r .processor) < instructionsEach) where
+module _ (g : Columns) (r : Record) (f : Formed r) (fits : Fits g) (room : countIn g (r .processor) < instructionsEach) where
   abbrev p : ℕ
   p = r .processor
 
   abbrev n : ℕ
   n = countIn g p
 
-  abbrev g′ : Program
+  abbrev g′ : Columns
   g′ = withInstruction g r
 
   pub count-own : countIn g′ p ≡ suc n

@@ -7,16 +7,15 @@ use lib.ListN.{length-set}
 use lib.Dec.{eqb}
 use borrow.Author.Tests.{eqb-true, eqb-false}
 use Rattle.model.specs.declared.record.Record.{Record}
-use Rattle.model.specs.declared.table.Program.{Program}
 use Rattle.model.specs.Sizes.{processors, instructionsEach}
-use Rattle.model.specs.Code.{countIn, instructionAt, Fit, Fits}
+use Rattle.model.specs.Code.{Columns, countIn, instructionAt, Fit, Fits}
 use Rattle.model.proofs.Bools.{one}
 use Rattle.model.proofs.Lists.{each}
-use Rattle.initial.specs.Given.{Formed}
-use Rattle.entering.specs.Enter.{withInstruction}
+use Rattle.table_initial.specs.Given.{Formed}
+use Rattle.table_enter.specs.Enter.{withInstruction}
 use Rattle.table.proofs.Entering.{count-own, count-other, at-own, at-before, at-elsewhere}
 
-pub fits-more : (g : Program) (r : Record) → Formed r → Fits g → countIn g (r .processor) < instructionsEach → 2 < r .kind → Fits (withInstruction g r)
+pub fits-more : (g : Columns) (r : Record) → Formed r → Fits g → countIn g (r .processor) < instructionsEach → 2 < r .kind → Fits (withInstruction g r)
 fits-more g r f fits room k = record {
   kinds = length-set (g .kinds) at (r .kind) ∙ fits .kinds;
   registers = length-set (g .registers) at (r .register) ∙ fits .registers;
@@ -55,7 +54,7 @@ fits-more g r f fits room k = record {
         let m : a < countIn g q = subst (λ (j : ℕ). a < j) (count-other g r f fits room q o) l in
         subst⁻¹ Fit (at-elsewhere g r f fits room q a o m) (fits .each q a h m)
 
-pub count-up : (g : Program) (r : Record) (f : Formed r) (fits : Fits g) (room : countIn g (r .processor) < instructionsEach) (q : ℕ)
+pub count-up : (g : Columns) (r : Record) (f : Formed r) (fits : Fits g) (room : countIn g (r .processor) < instructionsEach) (q : ℕ)
     → countIn (withInstruction g r) q ≡ countIn g q + one (eqb (r .processor) q)
 count-up g r f fits room q = go (eqb (r .processor) q) refl
   where

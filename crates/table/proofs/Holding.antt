@@ -9,7 +9,6 @@ use lib.ListN.{length, getD, length-set}
 use lib.Dec.{eqb, leb}
 use borrow.Author.Tests.{ne-eqb, lt-leb, lt-ltb}
 use Rattle.model.specs.declared.record.Record.{Record}
-use Rattle.model.specs.declared.table.Program.{Program}
 use Rattle.model.specs.declared.table.Cells.{Cells}
 use Rattle.model.specs.Sizes.{processors, registersEach, locations, instructionsEach}
 use Rattle.model.specs.Program.{Instruction}
@@ -18,21 +17,21 @@ use Rattle.model.specs.Kinds.{Entry, initialMemory, initialRegister, instructio
 use Rattle.model.specs.Table.{instructionsOf, empty, enter, enterAll, start}
 use Rattle.model.specs.Tests.{first, unknown, tooLarge, notZero}
 use Rattle.model.specs.Reading.{any, isInstruction, givesMemory, givesRegister, late, again, crowded, ownTests, tableTests}
-use Rattle.model.specs.Code.{countIn, stepsFrom, processorAtStart, startOf, Fits, Sized}
+use Rattle.model.specs.Code.{Columns, countIn, stepsFrom, processorAtStart, startOf, Fits, Sized}
 use Rattle.model.proofs.Bools.{one}
 use Rattle.model.proofs.Readable.{isOf}
 use Rattle.model.proofs.Rows.{alike}
-use Rattle.initial.specs.Given.{Given, Formed, nothingGiven, crowdedIn, placeTests, memoryNoted, registerNoted, instructionNoted, notedIn}
-use Rattle.initial.specs.Cells.{withMemory, withRegister, cellsWith}
-use Rattle.initial.proofs.Forms.{formed}
-use Rattle.entering.specs.Enter.{withInstruction, programWith}
+use Rattle.table_initial.specs.Given.{Given, Formed, nothingGiven, crowdedIn, placeTests, memoryNoted, registerNoted, instructionNoted, notedIn}
+use Rattle.table_initial.specs.Cells.{withMemory, withRegister, cellsWith}
+use Rattle.table_initial.proofs.Forms.{formed}
+use Rattle.table_enter.specs.Enter.{withInstruction, programWith}
 use Rattle.table.specs.Reads.{noProgram, noCells}
 use Rattle.table.proofs.Instructions.{room, rec, entry-instruction}
 use Rattle.table.proofs.Entering.{memory-entered, register-entered, instruction-entered}
 use Rattle.table.proofs.Fitting.{fits-more, count-up}
 use Rattle.table.proofs.More.{any-more, instructions-more, start-more, flag-up, cells-apart}
 
-pub record Holds (g : Program) (c : Cells) (s : Given) (es : List Entry) : Type 0 where
+pub record Holds (g : Columns) (c : Cells) (s : Given) (es : List Entry) : Type 0 where
   pub machine : startOf g c ≡ start es
   pub fits : Fits g
   pub sized : Sized c
@@ -75,7 +74,7 @@ holds-none = record {
 
 -- ---- the code's tests are the model's
 
-module _ (g : Program) (c : Cells) (s : Given) (es : List Entry) (h : Holds g c s es) where
+module _ (g : Columns) (c : Cells) (s : Given) (es : List Entry) (h : Holds g c s es) where
   place-agrees : (k p q x v : ℕ) → Formed (rec k p q x v) → first (placeTests s g (rec k p q x v))
       ≡ cond (late es (entryOf (rec k p q x v))) (some 5) (cond (again es (entryOf (rec k p q x v))) (some 6) (cond (crowded es (entryOf (rec k p q x v))) (some 7) none))
   unfolding first late again crowded entryOf tableKinds
@@ -108,10 +107,10 @@ quiet f es e h = sym (any-more f es e ∙ ap (λ (b : Bool). any f es || b) h �
 uncounted : (p : ℕ) (es : List Entry) (e : Entry) → isOf p e ≡ false → instructionsOf p es ≡ instructionsOf p (es ++ (e ∷ []))
 uncounted p es e h = let o : one (isOf p e) ≡ 0 = ap one h in omega (arith, instructions-more p es e)
 
-step-on : (g h : Program) (c d : Cells) (es : List Entry) (e : Entry) → startOf g c ≡ start es → startOf h d ≡ enter (startOf g c) e → startOf h d ≡ start (es ++ (e ∷ []))
+step-on : (g h : Columns) (c d : Cells) (es : List Entry) (e : Entry) → startOf g c ≡ start es → startOf h d ≡ enter (startOf g c) e → startOf h d ≡ start (es ++ (e ∷ []))
 step-on g h c d es e m n = n ∙ ap (λ (s : Machine). enter s e) m ∙ sym (start-more es e)
 
-module _ (g : Program) (c : Cells) (s : Given) (es : List Entry) (h : Holds g c s es) where
+module _ (g : Columns) (c : Cells) (s : Given) (es : List Entry) (h : Holds g c s es) where
   on-memory : (r : Record) → Formed r → Holds g (withMemory c r) (memoryNoted s r) (es ++ (initialMemory (r .location) (r .value) ∷ []))
   on-memory r f = let e = initialMemory (r .location) (r .value) in record {
     machine = step-on g g c (withMemory c r) es e (h .machine) (memory-entered g c r);

@@ -7,16 +7,15 @@ use native.Mathlib.Omega.{arith}
 use lib.ListN.{getD}
 use borrow.Author.Tests.{leb-false, lt-ltb}
 use Rattle.model.specs.declared.record.Record.{Record}
-use Rattle.model.specs.declared.table.Program.{Program}
 use Rattle.model.specs.Sizes.{instructionsEach}
-use Rattle.model.specs.Code.{countIn}
+use Rattle.model.specs.Code.{Columns, countIn}
 use Rattle.model.specs.Program.{Instruction, storeConstant, storeRegister, load, setRegister, mfence, exchange, lockedExchange, exchangeAdd, lockedExchangeAdd}
 use Rattle.model.specs.Kinds.{instruction, tableKinds, tableRows, entryOf}
 use Rattle.model.proofs.Rows.{below}
-use Rattle.initial.specs.Given.{crowdedIn}
+use Rattle.table_initial.specs.Given.{crowdedIn}
 
 -- an instruction that passed test 7 has room
-pub room : (g : Program) (r : Record) → crowdedIn instructionsEach g r ≡ false → 2 < r .kind → countIn g (r .processor) < instructionsEach
+pub room : (g : Columns) (r : Record) → crowdedIn instructionsEach g r ≡ false → 2 < r .kind → countIn g (r .processor) < instructionsEach
 room g r h k = leb-false instructionsEach (countIn g (r .processor)) (rw (lt-ltb 2 (r .kind) k) at h)
 
 -- ---- a record of any kind above 2 is an instruction

@@ -12,7 +12,6 @@ use Rattle.model.specs.declared.answer.Refusal.{Refusal}
 use Rattle.model.specs.declared.answer.Refusal.the-variants.{TableLength}
 use Rattle.model.specs.declared.answer.Verdict.{Verdict}
 use Rattle.model.specs.declared.answer.Verdict.the-variants.{Passed, Refused}
-use Rattle.model.specs.declared.table.Program.{Program}
 use Rattle.model.specs.declared.table.Cells.{Cells}
 use Rattle.model.specs.Sizes.{instructionsEach, recordSize}
 use Rattle.model.specs.Record.{recordAt, recordsFrom, records}
@@ -20,14 +19,14 @@ use Rattle.model.specs.Kinds.{Entry, entryOf}
 use Rattle.model.specs.Reply.{numberOf}
 use Rattle.model.specs.Tests.{Tested, passed, refused, unless, inOrder}
 use Rattle.model.specs.Reading.{readRecord, reading, ownTests}
-use Rattle.model.specs.Code.{testedOf, Fits, Sized}
+use Rattle.model.specs.Code.{Columns, testedOf, Fits, Sized}
 use Rattle.model.proofs.Tests.{then-passed, then-refused}
 use Rattle.model.proofs.InOrder.{in-order-more, in-order-stop, file-whole, file-not-whole}
 use Rattle.model.proofs.Verdicts.{gives-none, gives-any}
-use Rattle.initial.specs.Given.{Given, Formed, crowdedIn, placeTests, notedIn}
-use Rattle.initial.specs.Cells.{cellsWith, ifPassed}
-use Rattle.initial.proofs.Forms.{formed}
-use Rattle.entering.specs.Enter.{programWith, Enters}
+use Rattle.table_initial.specs.Given.{Given, Formed, crowdedIn, placeTests, notedIn}
+use Rattle.table_initial.specs.Cells.{cellsWith, ifPassed}
+use Rattle.table_initial.proofs.Forms.{formed}
+use Rattle.table_enter.specs.Enter.{programWith, Enters}
 use Rattle.table.specs.Reads.{noProgram, noCells, Reads}
 use Rattle.table.proofs.Holding.{Holds, fits-none, sized-none, tests-agree, next-holds}
 
@@ -42,12 +41,12 @@ onward table n i = inOrder readRecord i (entries table i) (recordsFrom table i (
 
 -- ---- the ends
 
-refuses : (table : List ℕ) (g : Program) (c : Cells) (why : Refusal) (place : ℕ) → Fits g → Sized c → reading table ≡ refused (numberOf why) place
+refuses : (table : List ℕ) (g : Columns) (c : Cells) (why : Refusal) (place : ℕ) → Fits g → Sized c → reading table ≡ refused (numberOf why) place
     → Reads table (Refused why place) g c
 refuses table g c why place f z h = record { says = sym (then-refused (reading table) _ (numberOf why) place h); fits = f; sized = z }
 
 -- no multiple of 8
-pub odd : (table : List ℕ) (g : Program) (c : Cells) → (g ≡ noProgram) × (c ≡ noCells) → ¬ (length table % recordSize ≡ 0)
+pub odd : (table : List ℕ) (g : Columns) (c : Cells) → (g ≡ noProgram) × (c ≡ noCells) → ¬ (length table % recordSize ≡ 0)
     → Reads table (Refused TableLength (length table / recordSize)) g c
 unfolding reading
 odd table g c z h =
@@ -57,7 +56,7 @@ pub begins : (table : List ℕ) → length table % recordSize ≡ 0 → onward t
 unfolding reading entries records
 begins table h = rw sub-zero (sym (file-whole 1 readRecord [] table h))
 
-pub ends : (table : List ℕ) (g : Program) (c : Cells) (s : Given) (n i : ℕ) → n ≤ i → Holds g c s (entries table i) → onward table n i ≡ reading table
+pub ends : (table : List ℕ) (g : Columns) (c : Cells) (s : Given) (n i : ℕ) → n ≤ i → Holds g c s (entries table i) → onward table n i ≡ reading table
     → Reads table Passed g c
 unfolding inOrder recordsFrom
 ends table g c s n i l k e =
@@ -72,7 +71,7 @@ leaves : {A : Type 0} (new old : A) {x : A} {v u : Verdict} → v ≡ u → x �
 leaves new old e h = h ∙ ap (λ (w : Verdict). ifPassed w new old) e
 
 -- record i is read, tested and entered
-module _ (table : List ℕ) {g : Program} {c : Cells} {s : Given} {n i : ℕ} {r : Record} {v : Verdict} {h : Program} {d : Cells} {w : Given} (inside : i < n)
+module _ (table : List ℕ) {g : Columns} {c : Cells} {s : Given} {n i : ℕ} {r : Record} {v : Verdict} {h : Columns} {d : Cells} {w : Given} (inside : i < n)
     (holds : Holds g c s (entries table i)) (rest : onward table n i ≡ reading table) (read : r ≡ recordAt table i) (entered : Enters g c s i r v h d w) where
   -- the entries so far, with that of r
   abbrev with-r : List Entry

@@ -4,17 +4,16 @@ use mathlib.Core.List.{List}
 use Prim.Native.Nat.{ℕ, _*_}
 use lib.ListN.{replicate}
 use Rattle.model.specs.declared.answer.Verdict.{Verdict}
-use Rattle.model.specs.declared.table.Program.{Program}
 use Rattle.model.specs.declared.table.Cells.{Cells}
 use Rattle.model.specs.Sizes.{processors, registersEach, locations, instructionsEach}
-use Rattle.model.specs.Code.{columns, cellsOf, testedOf, startOf, Fits, Sized}
+use Rattle.model.specs.Code.{Columns, columns, cellsOf, testedOf, startOf, Fits, Sized}
 use Rattle.model.specs.Reading.{reading}
 use Rattle.model.specs.Table.{start}
 use Rattle.model.specs.Tests.{andThen, passed}
 
 -- ---- nothing entered
 
-abbrev pub noProgram : Program
+abbrev pub noProgram : Columns
 noProgram =
     let zeros : List ℕ = replicate (processors * instructionsEach) 0 in
     columns zeros zeros zeros zeros (replicate processors 0)
@@ -25,7 +24,7 @@ noCells = cellsOf (replicate (processors * registersEach) 0) (replicate location
 -- ---- the whole table
 
 -- the verdict is the definition's, and a table that passed gives the machine that its entries start
-pub record Reads (table : List ℕ) (verdict : Verdict) (program : Program) (cells : Cells) : Type 0 where
+pub record Reads (table : List ℕ) (verdict : Verdict) (program : Columns) (cells : Cells) : Type 0 where
   pub says : testedOf verdict (startOf program cells) ≡ andThen (reading table) (λ entries. passed (start entries))
   pub fits : Fits program
   pub sized : Sized cells

@@ -1,32 +1,34 @@
 // The whole table.
 ghost use mathlib.Core.Path.{_≡_};
-ghost use Rattle.model.specs.Code.{cellsOf, columns};
+ghost use Rattle.machine_state.specs.Packed.{keptIn, cellsIn, columnsIn};
 ghost use Rattle.table.specs.Reads.{noProgram, noCells, Reads};
-use entering::enter;
+use machine_state::state::Machine;
 use model::answer::Refusal;
 use model::answer::Verdict;
 use model::record::Record;
 use model::table::Cells;
 use model::table::Program;
 use record::bytes;
+use table_enter::enter;
 
-// The program and the cells that a table gives, if it is not refused. All columns and cells are zero before.
-pub fn read_parts<'a>(
-    kinds: &'a mut [u8; Program::PLACES],
-    operands: &'a mut [u8; Program::PLACES],
-    targets: &'a mut [u8; Program::PLACES],
+// The program and the cells that a table gives, if it is not refused. Codes, constants, registers and memory are zero before.
+pub fn read<'a>(
+    codes: &'a mut [u8; Program::CODES],
     constants: &'a mut [u32; Program::PLACES],
-    counts: &'a mut [usize; Program::PROCESSORS],
-    registers: &'a mut [u32; Cells::ALL_REGISTERS],
-    memory: &'a mut [u32; Cells::LOCATIONS],
+    cells: &'a mut [u32; Machine::CELLS],
     table: &[u8],
 ) -> Verdict
-    requires { ⌜ (columns (now kinds) (now operands) (now targets) (now constants) (now counts) ≡ noProgram) × (cellsOf (now registers) (now memory) ≡ noCells) ⌝ }
-    ensures { λ v. ⌜ Reads (now (table .entry)) v (columns (now (kinds .exit)) (now (operands .exit)) (now (targets .exit)) (now (constants .exit)) (now (counts .exit))) (cellsOf (now (registers .exit)) (now (memory .exit))) ⌝ }
+    requires { ⌜ (columnsIn (now codes) (now constants) ≡ noProgram) × (cellsIn (now cells) ≡ noCells) ⌝ }
+    ensures { λ v. ⌜ Reads (now (table .entry)) v (columnsIn (now (codes .exit)) (now (constants .exit))) (cellsIn (now (cells .exit)))
+        × (keptIn (now (cells .exit)) ≡ keptIn (now (cells .entry))) ⌝ }
 {
     let n = table.len() / Record::BYTES;
     if table.len() % Record::BYTES != 0 {
         return Verdict::Refused(Refusal::TableLength, n);
+    }
+    // An empty table is readable.
+    if n == 0 {
+        return Verdict::Passed;
     }
     let mut assigned = [false; Cells::ALL_REGISTERS];
     let mut filled = [false; Cells::LOCATIONS];
@@ -35,13 +37,9 @@ pub fn read_parts<'a>(
     while i < n {
         let r = bytes::read_record(table, i);
         match enter::enter_record(
-            kinds,
-            operands,
-            targets,
+            codes,
             constants,
-            counts,
-            registers,
-            memory,
+            cells,
             &mut assigned,
             &mut filled,
             &mut begun,

@@ -1,18 +1,22 @@
+use Rattle.checker.proofs.Results.{no-program, at-start, cells-long, reported-is, refuses, checks, underway, finishes}
+use Rattle.model.proofs.Bools.{false-true}
+use Rattle.model.specs.Calls.{checked, completed}
 use mathlib.Core.Path.{sym, _∙_}
 use borrow.Author.Needs.{needs}
-use Rattle.model.specs.Calls.{checked, completed}
-use Rattle.model.proofs.Bools.{false-true}
-use Rattle.checker.proofs.Results.{refuses, checks, underway, finishes}
 use Rattle.checker.proofs.call.answer.Statement.{statement}
 use Rattle.checker.proofs.call.answer.Tie as tie
 
 -- the arguments of the call
 abbrev begun : tie.After-try-trace → tie.Start
-begun c = c .before .before .before .before .before .before .before .before .before .before .before .before .before .before .before .before .before .before .before .before
+begun c = c .before .before .before .before .before .before .before .before .before .before .before
+
+try-trace-requires : tie.Need-try-trace-requires
+try-trace-requires c κs =
+    (no-program, at-start)
 
 complete-requires : tie.Need-complete-requires
 complete-requires c κs =
-    let told = c .before .before .before .before .before .before .before .before .before .before .before .before .before .before .before .before .before in
+    let told = c .before .before .before .before .before .before .before .before in
     let tried = told .before .before in
     let a = begun tried .args in
     underway (a .table .now) (a .trace .now) (a .records .now) _ _ _ (tried .try-trace .ensures) (told .enum-told .given .1)
@@ -20,7 +24,7 @@ complete-requires c κs =
 returns : tie.Need-returns
 returns c =
     let call = c .before .before in
-    let then = call .before .before .before .before .before .before .before .before .before .before .before .before .before .before .before .before .before in
+    let then = call .before .before .before .before .before .before .before .before in
     let told = then .before in
     let tried = told .before .before in
     let a = begun tried .args in
@@ -28,6 +32,11 @@ returns c =
       checks = λ n. false-true (sym n ∙ then .if1 .taken);
       finishes = λ y. finishes (a .table .now) (a .trace .now) (a .records .now) _ _ _ (tried .try-trace .ensures) (told .enum-told .given .1) _ (call .complete .ensures);
     }
+
+report-requires : tie.Need-report-requires
+report-requires c κs =
+    let tried = c .before .before .before .before .before .before .before in
+    cells-long _ _ _ _ _ _ (tried .try-trace .ensures .ready)
 
 returns-2 : tie.Need-returns-2
 unfolding checked completed
@@ -42,12 +51,13 @@ returns-2 c =
 returns-3 : tie.Need-returns-3
 returns-3 c =
     let call = c .before .before in
-    let then = call .before .before .before .before .before .before .before .before in
+    let then = call .before .before .before .before .before in
     let told = then .before in
     let tried = told .before .before in
     let a = begun tried .args in
+    let is = call .report .ensures ∙ reported-is _ _ _ _ _ _ (tried .try-trace .ensures .ready) _ _ in
     record {
-      checks = λ n. checks (a .table .now) (a .trace .now) (a .words .now) _ _ _ (tried .try-trace .ensures) (told .enum-told .given .1) _ (call .report .ensures);
+      checks = λ n. checks (a .table .now) (a .trace .now) (a .words .now) _ _ _ (tried .try-trace .ensures) (told .enum-told .given .1) _ is;
       finishes = λ y. false-true (sym (then .if1 .left) ∙ y);
     }
 
@@ -55,13 +65,14 @@ pub answer-spec : {M : Type 1} → statement M
 answer-spec =
     tie.close
     (tie.spec
-    (λ c κs. search needs)
+    (λ c. search needs)
+    try-trace-requires
     (λ c. search needs)
     (λ c. search needs)
     complete-requires
     (λ c. search needs)
     returns
-    (λ c κs. search needs)
+    report-requires
     returns-2
     (λ c. search needs)
     returns-3)

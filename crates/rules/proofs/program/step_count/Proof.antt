@@ -14,4 +14,4 @@ unfolding stepCount
 returns c = counts-are (c .args .kind) (search needs)
 
 pub step-count-spec : {M : Type 1} → statement M
-step-count-spec = tie.close (tie.spec (λ c. search needs) cast-result returns)
+step-count-spec = tie.close (tie.spec (λ c. search needs) (λ c. search needs) cast-result returns)

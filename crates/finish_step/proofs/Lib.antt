@@ -1,0 +1,3 @@
+pub mod Carried
+pub mod Chosen
+pub mod Moving

@@ -1,0 +1,54 @@
+-- What a proper event is known to have.
+use mathlib.Core.Path.{_≡_, refl, ap, _∙_}
+use mathlib.Core.Bool.{Bool, true, false}
+use Prim.Native.Nat.{ℕ, zero, suc, _<_}
+use native.Mathlib.Omega.{arith}
+use lib.ListN.{length, getD}
+use mathlib.Core.List.{[]}
+use Rattle.model.specs.Sizes.{processors, locations}
+use Rattle.model.specs.Fields.{Field, Known, Proper, among, used}
+use Rattle.model.specs.Kinds.{stepUses}
+use Rattle.model.specs.Rules.{Event}
+use Rattle.model.proofs.Fields.{proper-fields}
+
+-- neither location nor value
+pub record Bare (e : Event) : Type 0 where
+  pub location : e .location ≡ 0
+  pub value : e .value ≡ 0
+
+module _ (e : Event) (proper : Proper stepUses e) where
+  pub some-kind : 0 < e .kind
+  some-kind = proper .known .0
+
+  pub low-kind : e .kind < 8
+  unfolding stepUses
+  low-kind = proper .known .1
+
+  pub low-processor : e .processor < processors
+  low-processor = proper-fields stepUses e proper .0
+
+  pub low-location : e .location < locations
+  low-location = proper-fields stepUses e proper .2
+
+  pub no-register : e .register ≡ 0
+  unfolding used among stepUses
+  no-register = proper .unusedZero .register (go (e .kind))
+    where
+      go : (k : ℕ) → among (getD stepUses k []) Field.register ≡ false
+      go zero = refl
+      go (suc zero) = refl
+      go (suc (suc zero)) = refl
+      go (suc (suc (suc zero))) = refl
+      go (suc (suc (suc (suc zero)))) = refl
+      go (suc (suc (suc (suc (suc zero))))) = refl
+      go (suc (suc (suc (suc (suc (suc zero)))))) = refl
+      go (suc (suc (suc (suc (suc (suc (suc zero))))))) = refl
+      go (suc (suc (suc (suc (suc (suc (suc (suc k)))))))) = refl
+
+  -- by a kind that uses neither
+  pub bare : (k : ℕ) → e .kind ≡ k → among (getD stepUses k []) Field.location ≡ false → among (getD stepUses k []) Field.value ≡ false → Bare e
+  unfolding used
+  bare k z l v = record {
+    location = proper .unusedZero .location (ap (λ (n : ℕ). among (getD stepUses n []) Field.location) z ∙ l);
+    value = proper .unusedZero .value (ap (λ (n : ℕ). among (getD stepUses n []) Field.value) z ∙ v);
+  }

@@ -1,0 +1,3 @@
+// A program and a state in few arrays.
+pub mod program;
+pub mod state;

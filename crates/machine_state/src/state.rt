@@ -1,0 +1,36 @@
+// The state of a machine.
+use model::table::Cells;
+use model::table::Program;
+
+// In `cells` the registers of all processors, memory, and what each one's exchange keeps aside; the first Cells::WORDS of them are the result.
+// In `locations` and `values` the log of issued writes, those of processor p at Program::INSTRUCTIONS * p and on.
+// In `marks` who holds the lock, or NOBODY, and room for three more numbers; then for each processor the instruction that it stands at, how many program
+// steps of it are taken, and how many of its writes are issued, and drained. Those between wait.
+pub struct Machine {
+    pub cells: [u32; Machine::CELLS],
+    pub locations: [u8; Program::PLACES],
+    pub values: [u32; Program::PLACES],
+    pub marks: [usize; Machine::MARKS],
+}
+
+impl Machine {
+    // Where in `cells` memory and the kept values begin, and how long it is.
+    pub const MEMORY: usize = Cells::ALL_REGISTERS;
+
+    pub const KEPT: usize = Cells::WORDS;
+
+    pub const CELLS: usize = Self::KEPT + Program::PROCESSORS;
+
+    // Where `marks` has the holder, where a mark of each processor begins, and how long it is.
+    pub const HOLDER: usize = 0;
+
+    pub const AT: usize = 4;
+
+    pub const PHASE: usize = Self::AT + Program::PROCESSORS;
+
+    pub const ISSUED: usize = Self::PHASE + Program::PROCESSORS;
+
+    pub const DRAINED: usize = Self::ISSUED + Program::PROCESSORS;
+
+    pub const MARKS: usize = Self::DRAINED + Program::PROCESSORS;
+}

@@ -1,0 +1,48 @@
+use mathlib.Core.Bool.{_&&_}
+use mathlib.Core.Path.{refl, sym, ap, _∙_}
+use Rattle.model.specs.Code.{judged}
+use Rattle.machine_take.specs.Takes.{names}
+use borrow.Author.Needs.{needs}
+use Rattle.machine_take.proofs.read.Statement.{statement}
+use Rattle.machine_take.proofs.read.Tie as tie
+
+returns : tie.Need-returns
+returns c =
+    let a = c .before .before .before .before .before .before .before .before .before .before .before .before .before .before .before .args in
+    record {
+      says = ap judged (sym (c .before .before .before .if1 .taken) ∙ (λ j. names (a .e) (a .i .location) (c .before .before .before .before .before .before .before .before .before .seen .ensures j) && c .before .before .before .before .permitted .ensures j));
+      cellsAfter = c .receive .ensures;
+    }
+
+returns-2 : tie.Need-returns-2
+returns-2 c =
+    let a = c .before .before .before .before .before .before .before .before .before .before .before .before .args in
+    record {
+      says = ap judged (sym (c .if1 .left) ∙ (λ j. names (a .e) (a .i .location) (c .before .before .before .before .before .before .seen .ensures j) && c .before .permitted .ensures j));
+      cellsAfter = refl;
+    }
+
+pub read-spec : {M : Type 1} → statement M
+read-spec =
+    tie.close
+    (tie.spec
+    (λ c. search needs)
+    (λ c. search needs)
+    (λ c. search needs)
+    (λ c. search needs)
+    (λ c. search needs)
+    (λ c. search needs)
+    (λ c. search needs)
+    (λ c. search needs)
+    (λ c. search needs)
+    (λ c. search needs)
+    (λ c. search needs)
+    (λ c κs. search needs)
+    (λ c. search needs)
+    (λ c κs. search needs)
+    (λ c. search needs)
+    (λ c. search needs)
+    (λ c. search needs)
+    (λ c κs. search needs)
+    returns
+    returns-2)

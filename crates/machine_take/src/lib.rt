@@ -1,0 +1,158 @@
+// A step of each kind, attempted. e is the event, i the instruction that its processor stands at.
+ghost use mathlib.Core.Path.{_≡_};
+ghost use Prim.Native.Nat.{_<_};
+ghost use Rattle.model.specs.Code.{judged};
+ghost use Rattle.model.specs.Sizes.{processors};
+ghost use Rattle.rules.specs.Guards.{nobody};
+ghost use Rattle.machine_take.specs.Takes.{isDry, allows, MayDrain, Drains, MayRead, Reads, MayWrite, Writes, Holds, HasRegister, Assigns};
+use machine_state::state::Machine;
+use model::answer::Attempt;
+use model::answer::Refusal;
+use model::record::Record;
+use model::table::Cells;
+use model::table::Program;
+use rules::guards;
+use rules::guards::NOBODY;
+use rules::program::DRAIN;
+use rules::program::FENCE;
+use rules::program::LOCK;
+use rules::program::READ;
+use rules::program::UNLOCK;
+use rules::waiting;
+
+// The drain of the oldest of the processor's writes.
+pub fn drain<'a>(
+    cells: &'a mut [u32; Machine::CELLS],
+    locations: &'a [u8; Program::PLACES],
+    values: &'a [u32; Program::PLACES],
+    marks: &'a mut [usize; Machine::MARKS],
+    e: Record,
+) -> Attempt
+    requires { ⌜ MayDrain (now locations) (now values) (now marks) e ⌝ }
+    ensures { λ r. ⌜ Drains (now (cells .entry)) (now (locations .entry)) (now (values .entry)) (now (marks .entry)) e
+        r (now (cells .exit)) (now (marks .exit)) ⌝ }
+{
+    let p = e.processor as usize;
+    let n = marks[Machine::ISSUED + p];
+    let d = marks[Machine::DRAINED + p];
+    if d == n {
+        return Attempt::Turned(Refusal::NotAllowed);
+    }
+    let place = Program::INSTRUCTIONS * p + d;
+    // A write waits, so the buffer is not empty.
+    if (e.location == locations[place])
+        & (e.value == values[place])
+        & guards::permitted(DRAIN, marks[Machine::HOLDER], p, false)
+    {
+        machine_store::drain(cells, marks, p, e.location, e.value);
+        return Attempt::Taken;
+    }
+    Attempt::Turned(Refusal::NotAllowed)
+}
+
+// A read of what the processor sees.
+pub fn read<'a>(
+    cells: &'a mut [u32; Machine::CELLS],
+    locations: &'a [u8; Program::PLACES],
+    values: &'a [u32; Program::PLACES],
+    marks: &'a [usize; Machine::MARKS],
+    i: Record,
+    e: Record,
+) -> Attempt
+    requires { ⌜ MayRead (now locations) (now values) (now marks) i e ⌝ }
+    ensures { λ r. ⌜ Reads (now (cells .entry)) (now (locations .entry)) (now (values .entry)) (now (marks .entry)) i e
+        r (now (cells .exit)) ⌝ }
+{
+    let p = e.processor as usize;
+    let n = marks[Machine::ISSUED + p];
+    let d = marks[Machine::DRAINED + p];
+    let cell = Machine::MEMORY + (i.location as usize);
+    let seen = waiting::seen(locations, values, n, d, p, i.location, cells[cell]);
+    if (e.location == i.location)
+        & (e.value == seen)
+        & guards::permitted(READ, marks[Machine::HOLDER], p, d == n)
+    {
+        let c = Cells::REGISTERS * p + (i.register as usize);
+        machine_store::receive(cells, i.kind, p, c, e.value);
+        return Attempt::Taken;
+    }
+    Attempt::Turned(Refusal::NotAllowed)
+}
+
+// A write of what the instruction issues.
+pub fn write<'a>(
+    cells: &'a mut [u32; Machine::CELLS],
+    locations: &'a mut [u8; Program::PLACES],
+    values: &'a mut [u32; Program::PLACES],
+    marks: &'a mut [usize; Machine::MARKS],
+    i: Record,
+    e: Record,
+) -> Attempt
+    requires { ⌜ MayWrite (now marks) i e ⌝ }
+    ensures { λ r. ⌜ Writes (now (cells .entry)) (now (locations .entry)) (now (values .entry)) (now (marks .entry)) i e
+        r (now (cells .exit)) (now (locations .exit)) (now (values .exit)) (now (marks .exit)) ⌝ }
+{
+    let p = e.processor as usize;
+    let c = Cells::REGISTERS * p + (i.register as usize);
+    if (e.location == i.location)
+        & (e.value == guards::issued_by(i.kind, i.value, cells[Machine::KEPT + p], cells[c]))
+    {
+        machine_store::exchange(cells, i.kind, p, c);
+        machine_store::issue(locations, values, marks, p, e.location, e.value);
+        return Attempt::Taken;
+    }
+    Attempt::Turned(Refusal::NotAllowed)
+}
+
+// Nothing of the processor's waits.
+fn dry(marks: &[usize; Machine::MARKS], p: usize) -> bool
+    requires { ⌜ p < processors ⌝ }
+    ensures { λ r. ⌜ r ≡ isDry (now (marks .entry)) p ⌝ }
+{
+    marks[Machine::DRAINED + p] == marks[Machine::ISSUED + p]
+}
+
+pub fn fence(marks: &[usize; Machine::MARKS], e: Record) -> Attempt
+    requires { ⌜ e .processor < processors ⌝ }
+    ensures { λ r. ⌜ r ≡ judged (allows 4 (now (marks .entry)) e) ⌝ }
+{
+    let p = e.processor as usize;
+    if guards::permitted(FENCE, marks[Machine::HOLDER], p, dry(marks, p)) {
+        return Attempt::Taken;
+    }
+    Attempt::Turned(Refusal::NotAllowed)
+}
+
+pub fn lock(marks: &mut [usize; Machine::MARKS], e: Record) -> Attempt
+    requires { ⌜ e .processor < processors ⌝ }
+    ensures { λ r. ⌜ Holds 5 (e .processor) (now (marks .entry)) e r (now (marks .exit)) ⌝ }
+{
+    let p = e.processor as usize;
+    if guards::permitted(LOCK, marks[Machine::HOLDER], p, dry(marks, p)) {
+        marks[Machine::HOLDER] = p;
+        return Attempt::Taken;
+    }
+    Attempt::Turned(Refusal::NotAllowed)
+}
+
+pub fn unlock(marks: &mut [usize; Machine::MARKS], e: Record) -> Attempt
+    requires { ⌜ e .processor < processors ⌝ }
+    ensures { λ r. ⌜ Holds 6 nobody (now (marks .entry)) e r (now (marks .exit)) ⌝ }
+{
+    let p = e.processor as usize;
+    if guards::permitted(UNLOCK, marks[Machine::HOLDER], p, dry(marks, p)) {
+        marks[Machine::HOLDER] = NOBODY;
+        return Attempt::Taken;
+    }
+    Attempt::Turned(Refusal::NotAllowed)
+}
+
+// A local step: nothing stops it.
+pub fn assign(cells: &mut [u32; Machine::CELLS], i: Record, e: Record) -> Attempt
+    requires { ⌜ HasRegister i e ⌝ }
+    ensures { λ r. ⌜ Assigns (now (cells .entry)) i e r (now (cells .exit)) ⌝ }
+{
+    let c = Cells::REGISTERS * (e.processor as usize) + (i.register as usize);
+    cells[c] = i.value;
+    Attempt::Taken
+}
