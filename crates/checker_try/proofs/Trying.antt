@@ -9,7 +9,7 @@ use Rattle.model.specs.Machine as model
 use Rattle.model.specs.Calls.{following, tried}
 use Rattle.model.specs.Code.{Columns, cellsOf}
 use Rattle.machine_state.specs.State.{State, parts}
-use Rattle.machine_state.specs.Packed.{registersIn, memoryIn, keptIn, cellsIn, holderIn, atIn, phaseIn, issuedIn, drainedIn, stateIn}
+use Rattle.machine_state.specs.Packed.{registersIn, memoryIn, keptIn, cellsIn, holderIn, freeIn, atIn, phaseIn, issuedIn, drainedIn, stateIn}
 use Rattle.machine.specs.View.{machineOf}
 use Rattle.machine.specs.Arrays.{startIn}
 use Rattle.machine.specs.Ready.{Ready}
@@ -29,8 +29,8 @@ module _ (cells locations values marks : List ℕ) (start : stateIn cells locati
     at-start : stateIn given locations values marks ≡ startIn (cellsIn given)
     unfolding stateIn cellsIn
     at-start =
-        (λ j. parts (registersIn given) (memoryIn given) (same j) (atIn marks) (phaseIn marks) locations values (issuedIn marks) (drainedIn marks) (holderIn marks))
-        ∙ ap (λ (m : State). parts (registersIn given) (memoryIn given) (m .kept) (m .at) (m .phase) (m .locations) (m .values) (m .issued) (m .drained) (m .holder)) start
+        (λ j. parts (registersIn given) (memoryIn given) (same j) (atIn marks) (phaseIn marks) locations values (issuedIn marks) (drainedIn marks) (holderIn marks) (freeIn marks))
+        ∙ ap (λ (m : State). parts (registersIn given) (memoryIn given) (m .kept) (m .at) (m .phase) (m .locations) (m .values) (m .issued) (m .drained) (m .holder) (m .free)) start
 
     pub ready-to-follow : Ready g (stateIn given locations values marks)
     ready-to-follow = subst (Ready g) (sym at-start) (start-ready g (cellsIn given) (reads .fits) (reads .sized))

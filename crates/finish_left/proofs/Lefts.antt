@@ -1,4 +1,4 @@
--- k by the arrays, processor by processor; and that it is the model's.
+-- k by the lists, processor by processor; and that it is the model's.
 use mathlib.Core.Path.{_≡_, refl, sym, ap, _∙_}
 use mathlib.Core.List.{List, [], _∷_, _++_, map, map-append}
 use Prim.Native.Nat.{ℕ, zero, suc, _+_, _-_, _*_, _≤_, _<_}

@@ -1,4 +1,4 @@
--- k, by the arrays that it depends on. proofs/Lefts.antt proves that it is the model's.
+-- k, by the lists that it depends on. proofs/Lefts.antt proves that it is the model's.
 use mathlib.Core.List.{List}
 use Prim.Native.Nat.{ℕ, zero, suc, _+_, _-_, _≤_, _<_}
 use lib.ListN.{getD}

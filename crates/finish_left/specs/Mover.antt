@@ -1,4 +1,4 @@
--- Who moves when a run is finished, by the arrays.
+-- Who moves when a run is finished, by the lists that it depends on.
 use mathlib.Core.Bool.{Bool, cond}
 use mathlib.Core.List.{List}
 use Prim.Native.Nat.{ℕ, zero, suc}

@@ -88,11 +88,11 @@ module _ (cells locations values marks : List ℕ) where
 
     pub lock-carried : CarriesOut m i 5 (event 5 q 0 0) (stateIn cells locations values (set marks holderAt q))
     unfolding nextIn carriedOut
-    lock-carried = record { says = refl; after = stored.held-is cells locations values marks (asks .held) q }
+    lock-carried = record { says = refl; after = stored.held-is cells locations values marks (asks .hasHolder) q }
 
     pub unlock-carried : CarriesOut m i 6 (event 6 q 0 0) (stateIn cells locations values (set marks holderAt nobody))
     unfolding nextIn carriedOut
-    unlock-carried = record { says = refl; after = stored.held-is cells locations values marks (asks .held) nobody }
+    unlock-carried = record { says = refl; after = stored.held-is cells locations values marks (asks .hasHolder) nobody }
 
     pub local-carried : CarriesOut m i 7 (event 7 q 0 0) (stateIn (set cells (registerOf i) (i .value)) locations values marks)
     unfolding nextIn carriedOut

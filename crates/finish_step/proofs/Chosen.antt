@@ -24,7 +24,6 @@ use Rattle.rules.specs.Steps.{stepKind}
 use Rattle.rules.specs.Programs.{fetched, Fetched}
 use Rattle.rules.specs.Guards.{permits}
 use Rattle.rules.specs.Offers.{oldestIn, offeredIn}
-use Rattle.rules.proofs.Instructions.{fetched-is}
 use Rattle.machine_state.specs.State.{State}
 use Rattle.machine.specs.View.{machineOf}
 use Rattle.machine.specs.Arrays.{isDry, nextOf, offeredOf}
@@ -32,6 +31,7 @@ use Rattle.machine.specs.Stores.{advancedIn, afterEvent}
 use Rattle.machine.specs.Ready.{Own, Ready}
 use Rattle.machine.proofs.Moves.{offer, empty-is, oldest-offer}
 use Rattle.machine.proofs.Sim.{next-offer}
+use Rattle.machine.proofs.Standing.{any-whose, any-low, any-own}
 use Rattle.machine.proofs.Taken.{next-fields, inside, not-drain, offered-taken}
 use Rattle.finish_left.specs.Mover.{moverIn}
 use Rattle.finish_left.proofs.Movers.{mover-is}
@@ -151,27 +151,15 @@ module _ (g : Columns) (m : State) (u : HasMore g m) where
     low = busy-low p (mover-busy M p (u .underway .orderly) (subst (Mover M) is-mover (mover-moves M (u .more))))
 
     -- with or without an instruction
-    abbrev any : Record
-    any = fetched g p (getD (m .at) p 0)
-
-    any-here : Fetched g p (getD (m .at) p 0) any
-    any-here = fetched-is g p (getD (m .at) p 0) (ready .fits) low any refl
-
-    whose : p ≡ any .processor
-    whose = sym (any-here .processor)
-
-    any-own : Fetched g (any .processor) (getD (m .at) (any .processor) 0) any
-    any-own = subst (λ (q : ℕ). Fetched g q (getD (m .at) q 0) any) whose any-here
-
-    any-low : any .processor < processors
-    any-low = rw (sym whose) low
+    whose : p ≡ fetched g p (getD (m .at) p 0) .processor
+    whose = any-whose g m ready p low
 
     pub finishes-drained : ¬ (getD (m .drained) p 0 ≡ getD (m .issued) p 0) → (e : Event) (n : State) → DrainsOldest m p e n → FinishesBy g m e n
     finishes-drained w e n t =
-        drained-by any any-own any-low (is-mover ∙ whose) (subst (λ (q : ℕ). ¬ (getD (m .drained) q 0 ≡ getD (m .issued) q 0)) whose w) e n
+        drained-by _ (any-own g m ready p low) (any-low g m ready p low) (is-mover ∙ whose) (subst (λ (q : ℕ). ¬ (getD (m .drained) q 0 ≡ getD (m .issued) q 0)) whose w) e n
         (subst (λ (q : ℕ). DrainsOldest m q e n) whose t)
 
     pub within : getD (m .drained) p 0 ≡ getD (m .issued) p 0 → getD (m .at) p 0 < countIn g p
     within w =
         subst (λ (q : ℕ). getD (m .at) q 0 < countIn g q) (sym whose)
-        (stands-inside any any-own any-low (is-mover ∙ whose) (subst (λ (q : ℕ). getD (m .drained) q 0 ≡ getD (m .issued) q 0) whose w))
+        (stands-inside _ (any-own g m ready p low) (any-low g m ready p low) (is-mover ∙ whose) (subst (λ (q : ℕ). getD (m .drained) q 0 ≡ getD (m .issued) q 0) whose w))

@@ -11,7 +11,7 @@ use Rattle.machine_state.specs.State.{State}
 use Rattle.machine_state.specs.Packed.{issuedAt, drainedAt}
 use Rattle.machine_store.specs.Stores.{Issuable, Drainable}
 use Rattle.machine.specs.Arrays.{nextOf}
-use Rattle.machine.specs.Stores.{drainedIn, carriedOut}
+use Rattle.machine.specs.Stores.{afterDrain, carriedOut}
 use Rattle.machine.specs.Ready.{Own}
 
 -- ---- the drain of processor p's oldest waiting write
@@ -24,14 +24,14 @@ MayDrainOldest locations marks p = Drainable marks p (getD locations (placeAt p 
 
 pub record DrainsOldest (m : State) (p : ℕ) (e : Event) (n : State) : Type 0 where
   pub says : e ≡ oldestDrain m p
-  pub after : n ≡ drainedIn m e
+  pub after : n ≡ afterDrain m e
 
 -- ---- the program step of kind `next` of the instruction i, before the program goes on
 
 pub record MayCarryOut (marks : List ℕ) (i : Record) (next : ℕ) : Type 0 where
   pub own : Own i
   pub location : i .location < sizes.locations
-  pub held : 0 < length marks
+  pub hasHolder : 0 < length marks
   pub dry : getD marks (drainedAt (i .processor)) 0 ≡ getD marks (issuedAt (i .processor)) 0
   pub write : next ≡ 2 → Issuable marks (i .processor)
 

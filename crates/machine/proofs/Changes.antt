@@ -1,4 +1,4 @@
--- Each store changes one processor of the machine that the arrays stand for.
+-- Each store changes one processor of the machine that the state stands for.
 use mathlib.Core.Path.{_≡_, refl, sym, ap, _∙_}
 use mathlib.Core.Bool.{Bool, true, false, cond}
 use mathlib.Core.List.{List, [], _∷_, _++_}
@@ -14,7 +14,7 @@ use Rattle.model.specs.Code.{Columns, placeAt, row, stepsFrom, countIn}
 use Rattle.model.proofs.Rows.{row-set, row-set-other, four-get, four-set}
 use Rattle.rules.specs.Offers.{writesIn}
 use Rattle.machine.specs.View.{waitingIn, todoIn, processorOf, holderOf, machineOf}
-use Rattle.machine.specs.Stores.{isLast, nextAt, assignedIn, advancedIn, drainedIn, heldIn}
+use Rattle.machine.specs.Stores.{isLast, nextAt, assignedIn, advancedIn, afterDrain, heldIn}
 use Rattle.machine.specs.Ready.{Own, Long}
 use Rattle.machine.proofs.Logs.{pushedIn, Bounds, pushed-own, pushed-other, newerIn}
 use Rattle.machine_state.specs.State.{State, parts}
@@ -69,7 +69,7 @@ module _ (g : Columns) where
   -- ---- a value kept aside
 
   abbrev pub asideIn : State → ℕ → ℕ → State
-  asideIn m p v = parts (m .registers) (m .memory) (set (m .kept) p v) (m .at) (m .phase) (m .locations) (m .values) (m .issued) (m .drained) (m .holder)
+  asideIn m p v = parts (m .registers) (m .memory) (set (m .kept) p v) (m .at) (m .phase) (m .locations) (m .values) (m .issued) (m .drained) (m .holder) (m .free)
 
   abbrev pub withKept : ℕ → Processor → Processor
   withKept v P = record { todo = P .todo; kept = v; registers = P .registers; waiting = P .waiting }
@@ -117,7 +117,7 @@ module _ (g : Columns) where
   -- ---- the oldest write drained
 
   pub drained-changes : (m : State) (e : Event) → e .processor < processors → Long m
-      → Changes g m (drainedIn m e) (e .processor) (λ P. drained P (newerIn m (e .processor)))
+      → Changes g m (afterDrain m e) (e .processor) (λ P. drained P (newerIn m (e .processor)))
   unfolding processorOf todoIn waitingIn drained
   drained-changes m e h l =
       let p = e .processor in

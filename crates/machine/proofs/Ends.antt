@@ -1,4 +1,4 @@
--- The run is finished when the code says so, and its result is in the arrays.
+-- The run is finished when the code says so, and its result is in the state.
 use mathlib.Core.Path.{_≡_, refl, sym, ap, _∙_}
 use mathlib.Core.Bool.{Bool, true, false, _&&_}
 use mathlib.Core.List.{List, _++_}

@@ -1,4 +1,4 @@
--- A program step keeps what holds of the arrays at every step.
+-- A program step keeps what holds of a state at every step.
 use mathlib.Core.Path.{_≡_, refl, sym, ap}
 use mathlib.Core.Bool.{Bool, true, false, cond}
 use mathlib.Core.List.{List, _∷_}

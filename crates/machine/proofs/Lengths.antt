@@ -1,4 +1,4 @@
--- No store changes the length of an array.
+-- No store changes the length of a list.
 use mathlib.Core.Path.{_≡_, _∙_}
 use mathlib.Core.Bool.{Bool, true, false, cond}
 use mathlib.Core.List.{List}
@@ -7,7 +7,7 @@ use lib.ListN.{length, set, length-set}
 use Rattle.model.specs.declared.record.Record.{Record}
 use Rattle.model.specs.Sizes.{processors, registersEach, locations, instructionsEach}
 use Rattle.model.specs.Rules.{Event}
-use Rattle.machine.specs.Stores.{isLast, advancedIn, drainedIn}
+use Rattle.machine.specs.Stores.{isLast, advancedIn, afterDrain}
 use Rattle.machine.specs.Ready.{Long}
 use Rattle.machine_state.specs.State.{State, parts}
 
@@ -21,7 +21,7 @@ either-long false xs ys n h k = k
 module _ (m : State) (l : Long m) where
   pub stored-long : (registers kept locations values issued : List ℕ) (holder : ℕ) → length registers ≡ processors * registersEach → length kept ≡ processors
       → length locations ≡ processors * instructionsEach → length values ≡ processors * instructionsEach → length issued ≡ processors
-      → Long (parts registers (m .memory) kept (m .at) (m .phase) locations values issued (m .drained) holder)
+      → Long (parts registers (m .memory) kept (m .at) (m .phase) locations values issued (m .drained) holder (m .free))
   stored-long registers kept locations values issued holder r k x v n = record {
     registers = r;
     memory = l .memory;
@@ -47,7 +47,7 @@ module _ (m : State) (l : Long m) where
     drained = l .drained;
   }
 
-  pub drained-long : (e : Event) → Long (drainedIn m e)
+  pub drained-long : (e : Event) → Long (afterDrain m e)
   drained-long e = record {
     registers = l .registers;
     memory = set-long (m .memory) _ _ 8 (l .memory);

@@ -1,4 +1,4 @@
--- ---- what the arrays stand for
+-- ---- what a state stands for
 pub mod Todo
 pub mod Logs
 pub mod Locks
@@ -6,7 +6,7 @@ pub mod Changes
 -- ---- one step is the machine's
 pub mod Moves
 pub mod Sim
--- ---- and keeps what holds of the arrays
+-- ---- and keeps what holds of a state
 pub mod Lengths
 pub mod Keeps
 pub mod Taken

@@ -24,7 +24,7 @@ use Rattle.rules.specs.Steps.{stepKind, stepCount}
 use Rattle.machine.specs.Arrays.{isDry, oldestOf, nextOf}
 use Rattle.rules.specs.Offers.{oldestIn, nextIn}
 use Rattle.rules.specs.Guards.{notBlockedIn, permits, issuedBy}
-use Rattle.machine.specs.Stores.{advancedIn, drainedIn, assignedIn, heldIn, afterEvent}
+use Rattle.machine.specs.Stores.{advancedIn, afterDrain, assignedIn, heldIn, afterEvent}
 use Rattle.machine.specs.Ready.{Own, ReadyAt, Ready}
 use Rattle.machine.proofs.Todo.{targetOf, sourceOf, stepFor, issues, by-kind}
 use Rattle.machine.proofs.Logs.{pushedIn, newerIn, none-waits, some-wait, waits-none}
@@ -69,7 +69,7 @@ module _ (g : Columns) (m : State) (ready : Ready g m) (i : Record) (own : Own i
 
   drained-is : (x v : ℕ) → withCell (withProcessor M p (drained (processor M p) (newerIn m p))) x v ≡ machineOf g (afterEvent m i (event 3 p x v))
   unfolding withCell withProcessor machineOf afterEvent
-  drained-is x v = sym (machine-is g m (drainedIn m (event 3 p x v)) p _ (own .processor) (drained-changes g m (event 3 p x v) (own .processor) (ready .long)))
+  drained-is x v = sym (machine-is g m (afterDrain m (event 3 p x v)) p _ (own .processor) (drained-changes g m (event 3 p x v) (own .processor) (ready .long)))
 
   pub oldest-offer : drainMove M p (processor M p .waiting) ≡ offer g m i (oldestOf m i)
   unfolding drainMove oldestIn machineOf
@@ -119,7 +119,7 @@ module _ (g : Columns) (m : State) (ready : Ready g m) (i : Record) (own : Own i
     read-is x v = go (eqb (i .kind) 5)
       where
         go : (b : Bool) → withProcessor M p (received (processor M p) rest (cond b (into (i .register)) aside) v)
-            ≡ machineOf g (advancedIn (parts (cond b (set (m .registers) (registerOf i) v) (m .registers)) (m .memory) (cond b (m .kept) (set (m .kept) p v)) (m .at) (m .phase) (m .locations) (m .values) (m .issued) (m .drained) (m .holder)) i)
+            ≡ machineOf g (advancedIn (parts (cond b (set (m .registers) (registerOf i) v) (m .registers)) (m .memory) (cond b (m .kept) (set (m .kept) p v)) (m .at) (m .phase) (m .locations) (m .values) (m .issued) (m .drained) (m .holder) (m .free)) i)
         go true = sym (stepped (assignedIn m i v) (withRegister g (i .register) v) refl refl (assigned-changes g m i v own))
         go false = sym (stepped (asideIn g m p v) (withKept g v) refl refl (kept-changes g m p v (own .processor) (ready .long)))
 
@@ -161,7 +161,7 @@ module _ (g : Columns) (m : State) (ready : Ready g m) (i : Record) (own : Own i
         pushes = pushed-changes g m p x v (own .processor) (ready .long) bounds r
 
         go : (b : Bool) → withProcessor M p (advanced (withExchange b (writeOf x v) (processor M p)) rest)
-            ≡ machineOf g (advancedIn (parts (cond b (set (m .registers) (registerOf i) (getD (m .kept) p 0)) (m .registers)) (m .memory) (m .kept) (m .at) (m .phase) (set (m .locations) (placeAt p n) x) (set (m .values) (placeAt p n) v) (set (m .issued) p (n + 1)) (m .drained) (m .holder)) i)
+            ≡ machineOf g (advancedIn (parts (cond b (set (m .registers) (registerOf i) (getD (m .kept) p 0)) (m .registers)) (m .memory) (m .kept) (m .at) (m .phase) (set (m .locations) (placeAt p n) x) (set (m .values) (placeAt p n) v) (set (m .issued) p (n + 1)) (m .drained) (m .holder) (m .free)) i)
         go true = sym (stepped (assignedIn (pushedIn m p x v) i (getD (m .kept) p 0)) (withExchange true (writeOf x v)) refl refl (exchange-changes x v pushes))
         go false = sym (stepped (pushedIn m p x v) (withWrite g (writeOf x v)) refl refl pushes)
 

@@ -17,9 +17,9 @@ use Rattle.model.proofs.Bools.{self}
 use Rattle.rules.specs.Guards.{nobody, permits, issuedBy}
 use Rattle.rules.specs.Offers.{waitingFrom, nextIn}
 use Rattle.machine_state.specs.State.{State}
-use Rattle.machine_state.specs.Packed.{memoryAt, keptAt, registersIn, memoryIn, keptIn, issuedAt, drainedAt, holderIn, issuedIn, drainedIn, stateIn}
+use Rattle.machine_state.specs.Packed.{registersIn, memoryIn, keptIn, issuedAt, drainedAt, holderIn, issuedIn, drainedIn, stateIn}
 use Rattle.machine_state.proofs.Rows as rows
-use Rattle.machine_take.specs.Takes.{names, cellOf, isDry, allows, Reads, Writes, Holds, Assigns}
+use Rattle.machine_take.specs.Takes.{names, cellOf, emptyIn, allows, Reads, Writes, Holds, Assigns}
 use Rattle.machine.specs.Arrays as theory
 use Rattle.machine.specs.Arrays.{nextOf}
 use Rattle.machine.specs.Stores.{carriedOut}
@@ -59,7 +59,7 @@ module _ (cells locations values marks : List ℕ) (i e : Record) (r : Attempt) 
   d-is = sym (rows.drained-is marks p h)
 
   -- the test: the step's kind, location and value are named, lock and buffer allow it
-  tested : (k y w : ℕ) → e .kind ≡ k → event k p y w ≡ nextOf m o k → r ≡ judged (names e y w && permits k (holderIn marks) p (isDry marks p)) → r ≡ judged (nextAllowed m o e)
+  tested : (k y w : ℕ) → e .kind ≡ k → event k p y w ≡ nextOf m o k → r ≡ judged (names e y w && permits k (holderIn marks) p (emptyIn marks p)) → r ≡ judged (nextAllowed m o e)
   unfolding stateIn
   tested k y w z next f =
       f ∙ (λ j. judged (same-names e k p y w z refl (no-register e proper) j && permits k (holderIn marks) p (eqb (d-is j) (n-is j))))
@@ -67,8 +67,8 @@ module _ (cells locations values marks : List ℕ) (i e : Record) (r : Attempt) 
       ∙ (λ j. judged (same e (nextOf m o (sym z j)) && permits (sym z j) (holderIn marks) p (theory.isDry m o)))
 
   -- a step of this kind names no location and no value
-  bare : (k : ℕ) → e .kind ≡ k → Bare e → event k p 0 0 ≡ nextOf m o k → r ≡ judged (allows k marks e) → r ≡ judged (nextAllowed m o e)
-  bare k z b next f = tested k 0 0 z next (f ∙ sym (λ j. judged ((eqb (b .location j) 0 && eqb (b .value j) 0) && allows k marks e)))
+  bare : (k : ℕ) → e .kind ≡ k → Bare e → event k p 0 0 ≡ nextOf m o k → r ≡ judged (allows k marks p) → r ≡ judged (nextAllowed m o e)
+  bare k z b next f = tested k 0 0 z next (f ∙ sym (λ j. judged ((eqb (b .location j) 0 && eqb (b .value j) 0) && allows k marks p)))
 
   -- what is stored
   stored-as : (n full : State) → n ≡ cond (taken r) full m → full ≡ carriedOut m o e → n ≡ cond (taken r) (carriedOut m o e) m
@@ -93,7 +93,7 @@ module _ (cells locations values marks : List ℕ) (i e : Record) (r : Attempt) 
         as-own _
         (record {
           says = tested 1 y (newest (waitingFrom locations values (getD (issuedIn marks) p 0) (getD (drainedIn marks) p 0) p) y (getD (memoryIn cells) y 0)) z refl
-              (t .says ∙ (λ j. judged (names e y (newest (waitingFrom locations values (n-is j) (d-is j) p) y (sym (rows.memory-is cells y l) j)) && allows 1 marks e)));
+              (t .says ∙ (λ j. judged (names e y (newest (waitingFrom locations values (n-is j) (d-is j) p) y (sym (rows.memory-is cells y l) j)) && allows 1 marks p)));
           after = stored-as _ _ (in-cells r cells' _ (t .cellsAfter)) (stored.received-is cells locations values marks o has (e .value) ∙ rw z);
         })
 
@@ -125,7 +125,7 @@ module _ (cells locations values marks : List ℕ) (i e : Record) (r : Attempt) 
               ∙ sym (ap (λ (a : Attempt). cond (taken a) (carriedOut m o e) m) (t .says));
         })
 
-  pub fence-next : e .kind ≡ 4 → Bare e → r ≡ judged (allows 4 marks e) → TakesNext m i e r m
+  pub fence-next : e .kind ≡ 4 → Bare e → r ≡ judged (allows 4 marks p) → TakesNext m i e r m
   unfolding nextIn carriedOut stateIn
   fence-next z b t = as-own _ (record { says = bare 4 z b refl t; after = stored-as m m (go r) (rw z) })
     where
@@ -135,14 +135,14 @@ module _ (cells locations values marks : List ℕ) (i e : Record) (r : Attempt) 
 
   module _ (l : 0 < length marks) (marks' : List ℕ) where
     -- the holder afterwards is `holder`
-    held : (k holder : ℕ) → e .kind ≡ k → Bare e → event k p 0 0 ≡ nextOf m o k → stateIn cells locations values (set marks 0 holder) ≡ carriedOut m o e → Holds k holder marks e r marks'
+    held : (k holder : ℕ) → e .kind ≡ k → Bare e → event k p 0 0 ≡ nextOf m o k → stateIn cells locations values (set marks 0 holder) ≡ carriedOut m o e → Holds k holder marks p r marks'
         → TakesNext m i e r (stateIn cells locations values marks')
     held k holder z b next f t = as-own _ (record { says = bare k z b next (t .says); after = stored-as _ _ (in-marks r marks' _ (t .marksAfter)) f })
 
-    pub lock-next : e .kind ≡ 5 → Bare e → Holds 5 p marks e r marks' → TakesNext m i e r (stateIn cells locations values marks')
+    pub lock-next : e .kind ≡ 5 → Bare e → Holds 5 p marks p r marks' → TakesNext m i e r (stateIn cells locations values marks')
     unfolding nextIn carriedOut stateIn
     lock-next z b = held 5 p z b refl (stored.held-is cells locations values marks l p ∙ rw z)
 
-    pub unlock-next : e .kind ≡ 6 → Bare e → Holds 6 nobody marks e r marks' → TakesNext m i e r (stateIn cells locations values marks')
+    pub unlock-next : e .kind ≡ 6 → Bare e → Holds 6 nobody marks p r marks' → TakesNext m i e r (stateIn cells locations values marks')
     unfolding nextIn carriedOut stateIn
     unlock-next z b = held 6 nobody z b refl (stored.held-is cells locations values marks l nobody ∙ rw z)

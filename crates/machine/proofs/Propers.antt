@@ -1,12 +1,11 @@
 -- What a proper event is known to have.
 use mathlib.Core.Path.{_≡_, refl, ap, _∙_}
-use mathlib.Core.Bool.{Bool, true, false}
+use mathlib.Core.Bool.{false}
 use Prim.Native.Nat.{ℕ, zero, suc, _<_}
-use native.Mathlib.Omega.{arith}
-use lib.ListN.{length, getD}
+use lib.ListN.{getD}
 use mathlib.Core.List.{[]}
 use Rattle.model.specs.Sizes.{processors, locations}
-use Rattle.model.specs.Fields.{Field, Known, Proper, among, used}
+use Rattle.model.specs.Fields.{Field, Proper, among, used}
 use Rattle.model.specs.Kinds.{stepUses}
 use Rattle.model.specs.Rules.{Event}
 use Rattle.model.proofs.Fields.{proper-fields}

@@ -1,4 +1,4 @@
--- A step of the arrays is a step of the machine that they stand for.
+-- A step of a state is a step of the machine that it stands for.
 use mathlib.Core.Path.{_≡_, refl, sym, ap, _∙_}
 use mathlib.Core.Bool.{Bool, true, false, cond, _&&_}
 use mathlib.Core.Option.{none}

@@ -46,9 +46,29 @@ stays m i e = go (e .kind)
     go (suc (suc (suc (suc (suc (suc (suc zero))))))) = (refl, refl)
     go (suc (suc (suc (suc (suc (suc (suc (suc k)))))))) = (refl, refl)
 
-pub marks-long : (marks : List ℕ) → length (packed.drainedIn marks) ≡ 4 → 0 < length marks
+marks-long : (marks : List ℕ) → length (packed.drainedIn marks) ≡ 4 → 0 < length marks
 marks-long [] e = absurd (omega arith)
 marks-long (x ∷ xs) e = omega arith
+
+-- ---- with or without an instruction
+
+module _ (g : Columns) (m : State) (ready : Ready g m) (p : ℕ) (h : p < processors) where
+  abbrev any : Record
+  any = fetched g p (getD (m .at) p 0)
+
+  any-here : Fetched g p (getD (m .at) p 0) any
+  any-here = fetched-is g p (getD (m .at) p 0) (ready .fits) h any refl
+
+  pub any-whose : p ≡ any .processor
+  any-whose = sym (any-here .processor)
+
+  pub any-low : any .processor < processors
+  any-low = rw (sym any-whose) h
+
+  pub any-own : Fetched g (any .processor) (getD (m .at) (any .processor) 0) any
+  any-own = subst (λ (q : ℕ). Fetched g q (getD (m .at) q 0) any) any-whose any-here
+
+-- ---- in the arrays
 
 module _ (codes constants cells locations values marks : List ℕ) (ready : Ready (columnsIn codes constants) (stateIn cells locations values marks)) (p : ℕ) (h : p < processors) where
   abbrev g : Columns
@@ -73,9 +93,9 @@ module _ (codes constants cells locations values marks : List ℕ) (ready : Read
   unfolding stateIn
   a-is = sym (rows.at-is marks p h)
 
-  pub held : 0 < length marks
+  pub has-holder : 0 < length marks
   unfolding stateIn
-  held = marks-long marks (ready .long .drained)
+  has-holder = marks-long marks (ready .long .drained)
 
   pub log : LogOf locations values marks p
   unfolding stateIn
@@ -90,7 +110,7 @@ module _ (codes constants cells locations values marks : List ℕ) (ready : Read
   pub low-phase : getD marks (phaseAt p) 0 < phases
   low-phase = let s = ready .each p h .stands .phase in let f = f-is in omega arith
 
-  -- ---- at an instruction
+  -- at an instruction
 
   module _ (inside : getD (m .at) p 0 < countIn g p) where
     pub below : getD marks (standsAt p) 0 < instructionsEach

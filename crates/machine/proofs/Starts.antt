@@ -15,7 +15,6 @@ use Rattle.machine.specs.Arrays.{startIn}
 use Rattle.machine.specs.Ready.{Ready}
 use Rattle.rules.proofs.Lookup.{part-none}
 use Rattle.machine.proofs.Todo.{stands-first}
-use Rattle.machine_state.specs.State.{State}
 
 module _ (g : Columns) (c : Cells) where
   start-todo : (p : ℕ) → todoIn g (startIn c) p ≡ stepsFrom g p 0 (countIn g p)

@@ -1,4 +1,4 @@
--- A step that is taken keeps what holds of the arrays at every step.
+-- A step that is taken keeps what holds of a state at every step.
 use mathlib.Core.Path.{_≡_, refl, sym, ap, _∙_, subst}
 use mathlib.Core.Bool.{Bool, true, false, cond}
 use mathlib.Core.List.{_∷_}
@@ -18,7 +18,7 @@ use Rattle.machine.specs.View.{todoIn}
 use Rattle.rules.specs.Steps.{stepsOfKind, stepKind}
 use Rattle.machine.specs.Arrays.{oldestOf, nextOf, offeredOf}
 use Rattle.rules.specs.Offers.{nextIn, oldestIn, offeredIn}
-use Rattle.machine.specs.Stores.{drainedIn, carriedOut, afterEvent}
+use Rattle.machine.specs.Stores.{afterDrain, carriedOut, afterEvent}
 use Rattle.machine.specs.Ready.{ReadyAt, Ready}
 use Rattle.rules.specs.Programs.{Fetched}
 use Rattle.machine.proofs.Todo.{stepFor, by-kind}
@@ -65,13 +65,13 @@ module _ (g : Columns) (m : State) (ready : Ready g m) (i : Record) (here : Fetc
   abbrev d : ℕ
   d = getD (m .drained) p 0
 
-  ready-drained : (x v : ℕ) → d < n → Ready g (drainedIn m (event 3 p x v))
+  ready-drained : (x v : ℕ) → d < n → Ready g (afterDrain m (event 3 p x v))
   unfolding todoIn
   ready-drained x v l = record { fits = ready .fits; long = drained-long m (ready .long) (event 3 p x v); inLog = ready .inLog; each = λ q o. go q o (eqb q p) refl }
     where
-      go : (q : ℕ) → q < processors → (b : Bool) → eqb q p ≡ b → ReadyAt g (drainedIn m (event 3 p x v)) q
+      go : (q : ℕ) → q < processors → (b : Bool) → eqb q p ≡ b → ReadyAt g (afterDrain m (event 3 p x v)) q
       go q o true e =
-          let y : ReadyAt g (drainedIn m (event 3 p x v)) p = record {
+          let y : ReadyAt g (afterDrain m (event 3 p x v)) p = record {
             order = rw (getD-set-same (m .drained) p (d + 1) 0 (rw (ready .long .drained) h)) (omega arith);
             room = at .room;
             stands = at .stands;

@@ -23,13 +23,12 @@ use Rattle.rules.specs.Guards.{permits}
 use Rattle.rules.specs.Steps.{phases, stepsOfKind, stepKind}
 use Rattle.rules.specs.Programs.{fetched, Fetched}
 use Rattle.rules.specs.Offers.{oldestIn, offeredIn}
-use Rattle.rules.proofs.Instructions.{fetched-is}
 use Rattle.machine_state.specs.State.{State}
 use Rattle.machine_state.specs.Packed.{memoryAt, standsAt, phaseAt, issuedAt, drainedAt, holderIn, countsIn, stateIn, columnsIn}
 use Rattle.machine_store.specs.Stores.{oneMoreDrained, advanced, Onward}
 use Rattle.machine_take.specs.Takes.{names, drainAllowed, MayDrain, Drains}
 use Rattle.machine.specs.Arrays.{isDry, oldestOf, nextOf, offeredOf}
-use Rattle.machine.specs.Stores.{drainedIn, advancedIn, carriedOut, afterEvent}
+use Rattle.machine.specs.Stores.{afterDrain, advancedIn, carriedOut, afterEvent}
 use Rattle.machine.specs.Next.{MayTake, nextAllowed, TakesNext}
 use Rattle.machine.specs.Ready.{Ready, Steps}
 use Rattle.machine.proofs.Propers.{some-kind, low-processor, low-location, no-register}
@@ -101,7 +100,7 @@ module _ (g : Columns) (m : State) (ready : Ready g m) (e : Event) (proper : Pro
         go false x v = λ j. same-names e 3 q x v d whose (no-register e proper) j && permits 3 (m .holder) q false
 
     drained-at : (r : Attempt) → r ≡ judged (drainAllowed (m .locations) (m .values) (getD (m .issued) (e .processor) 0) (getD (m .drained) (e .processor) 0) (m .holder) e)
-        → (n : State) → n ≡ cond (taken r) (drainedIn m e) m → Steps g m e r n
+        → (n : State) → n ≡ cond (taken r) (afterDrain m e) m → Steps g m e r n
     unfolding afterEvent
     drained-at r z n f = settled r (z ∙ ap judged drain-test) n (rw d f)
 
@@ -153,20 +152,8 @@ module _ (codes constants cells locations values marks : List ℕ) (ready : Read
   h = low-processor e proper
 
   -- with or without an instruction
-  abbrev any : Record
-  any = fetched g p (getD (m .at) p 0)
-
-  any-here : Fetched g p (getD (m .at) p 0) any
-  any-here = fetched-is g p (getD (m .at) p 0) (ready .fits) h any refl
-
-  whose : p ≡ any .processor
-  whose = sym (any-here .processor)
-
-  own : Fetched g (any .processor) (getD (m .at) (any .processor) 0) any
-  own = subst (λ (q : ℕ). Fetched g q (getD (m .at) q 0) any) whose any-here
-
-  low : any .processor < processors
-  low = rw (sym whose) h
+  whose : p ≡ fetched g p (getD (m .at) p 0) .processor
+  whose = standing.any-whose g m ready p h
 
   n-is : getD marks (issuedAt p) 0 ≡ getD (m .issued) p 0
   n-is = standing.n-is _ _ _ _ _ _ ready p h
@@ -185,11 +172,11 @@ module _ (codes constants cells locations values marks : List ℕ) (ready : Read
   pub drains-it : e .kind ≡ 3 → (r : Attempt) (cells' marks' : List ℕ) → Drains cells locations values marks e r cells' marks' → Steps g m e r (stateIn cells' locations values marks')
   unfolding stateIn
   drains-it k r cells' marks' t =
-      drained-at g m ready e proper any own low whose k r (t .says ∙ (λ j. judged (drainAllowed locations values (n-is j) (d-is j) (holderIn marks) e))) _
+      drained-at g m ready e proper _ (standing.any-own g m ready p h) (standing.any-low g m ready p h) whose k r (t .says ∙ (λ j. judged (drainAllowed locations values (n-is j) (d-is j) (holderIn marks) e))) _
       (go r (t .cellsAfter) (t .marksAfter))
     where
       go : (a : Attempt) → cells' ≡ cond (taken a) (set cells (memoryAt (e .location)) (e .value)) cells → marks' ≡ cond (taken a) (oneMoreDrained marks p) marks
-          → stateIn cells' locations values marks' ≡ cond (taken a) (drainedIn m e) m
+          → stateIn cells' locations values marks' ≡ cond (taken a) (afterDrain m e) m
       go Taken ec ek = (λ j. stateIn (ec j) locations values (ek j)) ∙ stored.drained-is cells locations values marks e h (low-location e proper)
       go (Turned why) ec ek = λ j. stateIn (ec j) locations values (ek j)
 
@@ -200,7 +187,7 @@ module _ (codes constants cells locations values marks : List ℕ) (ready : Read
   at-the-end n l =
       let a = a-is in
       let l′ : countIn g p ≤ getD (m .at) p 0 = omega arith in
-      past g m ready e proper any own low whose n (subst (λ (q : ℕ). countIn g q ≤ getD (m .at) q 0) whose l′)
+      past g m ready e proper _ (standing.any-own g m ready p h) (standing.any-low g m ready p h) whose n (subst (λ (q : ℕ). countIn g q ≤ getD (m .at) q 0) whose l′)
 
   module _ (l : getD marks (standsAt p) 0 < getD (countsIn codes) p 0) where
     some : getD (m .at) p 0 < countIn g p
@@ -236,7 +223,7 @@ module _ (codes constants cells locations values marks : List ℕ) (ready : Read
           program = n;
           own = its;
           log = standing.log _ _ _ _ _ _ ready p h;
-          held = standing.held _ _ _ _ _ _ ready p h;
+          hasHolder = standing.has-holder _ _ _ _ _ _ ready p h;
           register = here .register;
           location = here .location;
           write = λ z. standing.issuable _ _ _ _ _ _ ready p h some i read (sym next ∙ z);

@@ -18,7 +18,7 @@ abbrev pub startIn : Cells → State
 startIn c =
     let zeros : List ℕ = replicate processors 0 in
     let log : List ℕ = replicate (processors * instructionsEach) 0 in
-    parts (c .registers) (c .memory) zeros zeros zeros log log zeros zeros nobody
+    parts (c .registers) (c .memory) zeros zeros zeros log log zeros zeros nobody (replicate 3 0)
 
 -- ---- the step that a processor can come to in it
 

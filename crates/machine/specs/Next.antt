@@ -25,7 +25,7 @@ pub record MayTake (locations values marks : List ℕ) (i : Record) (e : Event) 
   pub program : ¬ (e .kind ≡ 3)
   pub own : i .processor ≡ e .processor
   pub log : LogOf locations values marks (e .processor)
-  pub held : 0 < length marks
+  pub hasHolder : 0 < length marks
   pub register : i .register < registersEach
   pub location : i .location < sizes.locations
   pub write : e .kind ≡ 2 → Issuable marks (e .processor)

@@ -1,4 +1,4 @@
--- What holds of the arrays at every step, and what a step promises.
+-- What holds of a state at every step, and what a step promises.
 use mathlib.Core.Path.{_≡_}
 use Prim.Native.Nat.{ℕ, _+_, _*_, _≤_, _<_}
 use mathlib.Core.Bool.{false}

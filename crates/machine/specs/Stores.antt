@@ -37,33 +37,33 @@ nextPhase phase kind p = set phase p (cond (isLast phase kind p) 0 (getD phase p
 
 -- ---- the whole state
 
-abbrev pub drainedIn : State → Event → State
-drainedIn m e =
+abbrev pub afterDrain : State → Event → State
+afterDrain m e =
     parts (m .registers) (set (m .memory) (e .location) (e .value)) (m .kept) (m .at) (m .phase) (m .locations) (m .values) (m .issued)
-    (set (m .drained) (e .processor) (getD (m .drained) (e .processor) 0 + 1)) (m .holder)
+    (set (m .drained) (e .processor) (getD (m .drained) (e .processor) 0 + 1)) (m .holder) (m .free)
 
 abbrev pub assignedIn : State → Record → ℕ → State
 assignedIn m i v =
-    parts (set (m .registers) (registerOf i) v) (m .memory) (m .kept) (m .at) (m .phase) (m .locations) (m .values) (m .issued) (m .drained) (m .holder)
+    parts (set (m .registers) (registerOf i) v) (m .memory) (m .kept) (m .at) (m .phase) (m .locations) (m .values) (m .issued) (m .drained) (m .holder) (m .free)
 
 abbrev pub receivedIn : State → Record → ℕ → State
 receivedIn m i v =
     parts (receivedRegisters (m .registers) (i .kind) (registerOf i) v) (m .memory) (receivedKept (m .kept) (i .kind) (i .processor) v) (m .at) (m .phase) (m .locations) (m .values) (m .issued)
-    (m .drained) (m .holder)
+    (m .drained) (m .holder) (m .free)
 
 abbrev pub wroteIn : State → Record → Event → State
 wroteIn m i e =
     let p = i .processor in
     parts (exchangedRegisters (m .registers) (m .kept) (i .kind) (i .processor) (registerOf i)) (m .memory) (m .kept) (m .at) (m .phase) (set (m .locations) (nextPlace (m .issued) p) (e .location))
-    (set (m .values) (nextPlace (m .issued) p) (e .value)) (set (m .issued) p (getD (m .issued) p 0 + 1)) (m .drained) (m .holder)
+    (set (m .values) (nextPlace (m .issued) p) (e .value)) (set (m .issued) p (getD (m .issued) p 0 + 1)) (m .drained) (m .holder) (m .free)
 
 abbrev pub heldIn : State → ℕ → State
-heldIn m holder = parts (m .registers) (m .memory) (m .kept) (m .at) (m .phase) (m .locations) (m .values) (m .issued) (m .drained) holder
+heldIn m holder = parts (m .registers) (m .memory) (m .kept) (m .at) (m .phase) (m .locations) (m .values) (m .issued) (m .drained) holder (m .free)
 
 abbrev pub advancedIn : State → Record → State
 advancedIn m i =
     parts (m .registers) (m .memory) (m .kept) (nextAt (m .at) (m .phase) (i .kind) (i .processor)) (nextPhase (m .phase) (i .kind) (i .processor)) (m .locations) (m .values) (m .issued)
-    (m .drained) (m .holder)
+    (m .drained) (m .holder) (m .free)
 
 -- a program step, before the program goes on: by its kind, from 0 on
 unfoldable pub carriedOut : State → Record → Event → State
@@ -83,4 +83,4 @@ carriedOut m i e =
 
 unfoldable pub afterEvent : State → Record → Event → State
 unfolding carriedOut
-afterEvent m i e = cond (eqb (e .kind) 3) (drainedIn m e) (advancedIn (carriedOut m i e) i)
+afterEvent m i e = cond (eqb (e .kind) 3) (afterDrain m e) (advancedIn (carriedOut m i e) i)

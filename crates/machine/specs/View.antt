@@ -1,4 +1,4 @@
--- The machine that the arrays stand for, where g has the programs.
+-- The machine that a state stands for, where g has the programs.
 use mathlib.Core.Bool.{cond}
 use mathlib.Core.List.{List}
 use Prim.Native.Nat.{ℕ, _-_}

@@ -24,13 +24,14 @@ pub fn take_next<'a>(
     ensures { λ r. ⌜ TakesNext (stateIn (now (cells .entry)) (now (locations .entry)) (now (values .entry)) (now (marks .entry)))
         i e r (stateIn (now (cells .exit)) (now (locations .exit)) (now (values .exit)) (now (marks .exit))) ⌝ }
 {
+    let p = e.processor as usize;
     let kind = e.kind;
     match kind {
         READ => machine_take::read(cells, locations, values, marks, i, e),
         WRITE => machine_take::write(cells, locations, values, marks, i, e),
-        FENCE => machine_take::fence(marks, e),
-        LOCK => machine_take::lock(marks, e),
-        UNLOCK => machine_take::unlock(marks, e),
+        FENCE => machine_take::fence(marks, p),
+        LOCK => machine_take::lock(marks, p),
+        UNLOCK => machine_take::unlock(marks, p),
         // A local step.
         _ => machine_take::assign(cells, i, e),
     }

@@ -1,4 +1,4 @@
--- Finished, by the arrays that it depends on. `finished-is` in crate machine proves that it is the model's.
+-- Finished, by the lists that it depends on. `finished-is` in crate machine proves that it is the model's.
 use mathlib.Core.Bool.{Bool, _&&_}
 use mathlib.Core.List.{List}
 use Prim.Native.Nat.{ℕ}

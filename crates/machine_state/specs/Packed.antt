@@ -50,6 +50,9 @@ drainedAt p = 16 + p
 abbrev pub holderIn : List ℕ → ℕ
 holderIn marks = getD marks holderAt 0
 
+abbrev pub freeIn : List ℕ → List ℕ
+freeIn marks = slice 1 4 marks
+
 abbrev pub atIn : List ℕ → List ℕ
 atIn marks = slice 4 8 marks
 
@@ -65,6 +68,7 @@ drainedIn marks = slice 16 20 marks
 unfoldable pub stateIn : (cells locations values marks : List ℕ) → State
 stateIn cells locations values marks =
     parts (registersIn cells) (memoryIn cells) (keptIn cells) (atIn marks) (phaseIn marks) locations values (issuedIn marks) (drainedIn marks) (holderIn marks)
+    (freeIn marks)
 
 -- ---- codes: kinds, registers, locations, counts
 

@@ -13,9 +13,10 @@ pub record State : Type 0 where
   pub issued : List ℕ  -- how many writes are issued
   pub drained : List ℕ
   pub holder : ℕ  -- of the lock
+  pub free : List ℕ  -- what no step looks at
 
-abbrev pub parts : (registers memory kept at phase locations values issued drained : List ℕ) (holder : ℕ) → State
-parts registers memory kept at phase locations values issued drained holder = record {
+abbrev pub parts : (registers memory kept at phase locations values issued drained : List ℕ) (holder : ℕ) (free : List ℕ) → State
+parts registers memory kept at phase locations values issued drained holder free = record {
   registers = registers;
   memory = memory;
   kept = kept;
@@ -26,4 +27,5 @@ parts registers memory kept at phase locations values issued drained holder = re
   issued = issued;
   drained = drained;
   holder = holder;
+  free = free;
 }

@@ -1,7 +1,7 @@
 // Single stores. `kind` is that of the instruction that processor p stands at, c the place of its register among the cells.
 ghost use mathlib.Core.Path.{_≡_};
-ghost use Prim.Native.Nat.{_+_, _*_, _<_};
-ghost use lib.ListN.{getD, set};
+ghost use Prim.Native.Nat.{_*_, _<_};
+ghost use lib.ListN.{set};
 ghost use Rattle.model.specs.Sizes.{processors, registersEach};
 ghost use Rattle.machine_state.specs.Packed.{memoryAt};
 ghost use Rattle.machine_store.specs.Stores.{received, exchanged, nextPlace, oneMoreIssued, oneMoreDrained, advanced, Issuable, Drainable, Onward};

@@ -26,12 +26,12 @@ names e y w = eqb (e .location) y && eqb (e .value) w
 abbrev pub cellOf : Record → Record → ℕ
 cellOf i e = registersEach * e .processor + i .register
 
-abbrev pub isDry : List ℕ → ℕ → Bool
-isDry marks p = eqb (getD marks (drainedAt p) 0) (getD marks (issuedAt p) 0)
+abbrev pub emptyIn : List ℕ → ℕ → Bool
+emptyIn marks p = eqb (getD marks (drainedAt p) 0) (getD marks (issuedAt p) 0)
 
--- lock and buffer allow e's processor a step of this kind
-abbrev pub allows : ℕ → List ℕ → Record → Bool
-allows kind marks e = permits kind (holderIn marks) (e .processor) (isDry marks (e .processor))
+-- lock and buffer allow processor p a step of this kind
+abbrev pub allows : ℕ → List ℕ → ℕ → Bool
+allows kind marks p = permits kind (holderIn marks) p (emptyIn marks p)
 
 pub record HasRegister (i e : Record) : Type 0 where
   pub processor : e .processor < processors
@@ -63,7 +63,7 @@ pub record MayDrain (locations values marks : List ℕ) (e : Record) : Type 0 wh
 abbrev pub readAllowed : (cells locations values marks : List ℕ) → Record → Record → Bool
 readAllowed cells locations values marks i e =
     let p = e .processor in
-    names e (i .location) (newest (waitingFrom locations values (getD marks (issuedAt p) 0) (getD marks (drainedAt p) 0) p) (i .location) (getD cells (memoryAt (i .location)) 0)) && allows 1 marks e
+    names e (i .location) (newest (waitingFrom locations values (getD marks (issuedAt p) 0) (getD marks (drainedAt p) 0) p) (i .location) (getD cells (memoryAt (i .location)) 0)) && allows 1 marks p
 
 pub record Reads (cells locations values marks : List ℕ) (i e : Record) (r : Attempt) (cells' : List ℕ) : Type 0 where
   pub says : r ≡ judged (readAllowed cells locations values marks i e)
@@ -92,9 +92,9 @@ pub record MayWrite (marks : List ℕ) (i e : Record) : Type 0 where
 
 -- ---- lock, unlock, local
 
--- `kind` is that of the step, `holder` who holds the lock if it is taken
-pub record Holds (kind holder : ℕ) (marks : List ℕ) (e : Record) (r : Attempt) (marks' : List ℕ) : Type 0 where
-  pub says : r ≡ judged (allows kind marks e)
+-- of processor p; `kind` is that of the step, `holder` who holds the lock if it is taken
+pub record Holds (kind holder : ℕ) (marks : List ℕ) (p : ℕ) (r : Attempt) (marks' : List ℕ) : Type 0 where
+  pub says : r ≡ judged (allows kind marks p)
   pub marksAfter : marks' ≡ cond (taken r) (set marks holderAt holder) marks
 
 pub record Assigns (cells : List ℕ) (i e : Record) (r : Attempt) (cells' : List ℕ) : Type 0 where

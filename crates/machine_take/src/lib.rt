@@ -4,7 +4,7 @@ ghost use Prim.Native.Nat.{_<_};
 ghost use Rattle.model.specs.Code.{judged};
 ghost use Rattle.model.specs.Sizes.{processors};
 ghost use Rattle.rules.specs.Guards.{nobody};
-ghost use Rattle.machine_take.specs.Takes.{isDry, allows, MayDrain, Drains, MayRead, Reads, MayWrite, Writes, Holds, HasRegister, Assigns};
+ghost use Rattle.machine_take.specs.Takes.{allows, MayDrain, Drains, MayRead, Reads, MayWrite, Writes, Holds, HasRegister, Assigns};
 use machine_state::state::Machine;
 use model::answer::Attempt;
 use model::answer::Refusal;
@@ -104,43 +104,41 @@ pub fn write<'a>(
     Attempt::Turned(Refusal::NotAllowed)
 }
 
-// Nothing of the processor's waits.
-fn dry(marks: &[usize; Machine::MARKS], p: usize) -> bool
+// Lock and buffer allow processor p a step of this kind.
+fn allowed(kind: u8, marks: &[usize; Machine::MARKS], p: usize) -> bool
     requires { ⌜ p < processors ⌝ }
-    ensures { λ r. ⌜ r ≡ isDry (now (marks .entry)) p ⌝ }
+    ensures { λ r. ⌜ r ≡ allows kind (now (marks .entry)) p ⌝ }
 {
-    marks[Machine::DRAINED + p] == marks[Machine::ISSUED + p]
+    let empty = marks[Machine::DRAINED + p] == marks[Machine::ISSUED + p];
+    guards::permitted(kind, marks[Machine::HOLDER], p, empty)
 }
 
-pub fn fence(marks: &[usize; Machine::MARKS], e: Record) -> Attempt
-    requires { ⌜ e .processor < processors ⌝ }
-    ensures { λ r. ⌜ r ≡ judged (allows 4 (now (marks .entry)) e) ⌝ }
+pub fn fence(marks: &[usize; Machine::MARKS], p: usize) -> Attempt
+    requires { ⌜ p < processors ⌝ }
+    ensures { λ r. ⌜ r ≡ judged (allows 4 (now (marks .entry)) p) ⌝ }
 {
-    let p = e.processor as usize;
-    if guards::permitted(FENCE, marks[Machine::HOLDER], p, dry(marks, p)) {
+    if allowed(FENCE, marks, p) {
         return Attempt::Taken;
     }
     Attempt::Turned(Refusal::NotAllowed)
 }
 
-pub fn lock(marks: &mut [usize; Machine::MARKS], e: Record) -> Attempt
-    requires { ⌜ e .processor < processors ⌝ }
-    ensures { λ r. ⌜ Holds 5 (e .processor) (now (marks .entry)) e r (now (marks .exit)) ⌝ }
+pub fn lock(marks: &mut [usize; Machine::MARKS], p: usize) -> Attempt
+    requires { ⌜ p < processors ⌝ }
+    ensures { λ r. ⌜ Holds 5 p (now (marks .entry)) p r (now (marks .exit)) ⌝ }
 {
-    let p = e.processor as usize;
-    if guards::permitted(LOCK, marks[Machine::HOLDER], p, dry(marks, p)) {
+    if allowed(LOCK, marks, p) {
         marks[Machine::HOLDER] = p;
         return Attempt::Taken;
     }
     Attempt::Turned(Refusal::NotAllowed)
 }
 
-pub fn unlock(marks: &mut [usize; Machine::MARKS], e: Record) -> Attempt
-    requires { ⌜ e .processor < processors ⌝ }
-    ensures { λ r. ⌜ Holds 6 nobody (now (marks .entry)) e r (now (marks .exit)) ⌝ }
+pub fn unlock(marks: &mut [usize; Machine::MARKS], p: usize) -> Attempt
+    requires { ⌜ p < processors ⌝ }
+    ensures { λ r. ⌜ Holds 6 nobody (now (marks .entry)) p r (now (marks .exit)) ⌝ }
 {
-    let p = e.processor as usize;
-    if guards::permitted(UNLOCK, marks[Machine::HOLDER], p, dry(marks, p)) {
+    if allowed(UNLOCK, marks, p) {
         marks[Machine::HOLDER] = NOBODY;
         return Attempt::Taken;
     }

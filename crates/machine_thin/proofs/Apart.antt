@@ -35,9 +35,6 @@ words n = record { row = Array u32 n; ty = tyArray (tyInt w32) n }
 abbrev counts : ℕ → Member
 counts n = record { row = Array usize n; ty = tyArray (tyInt w64) n }
 
-abbrev count : Member
-count = record { row = usize; ty = tyInt w64 }
-
 -- ---- the fields, and their values. In the type's own tuple an array stands under a `map` of the identity
 abbrev pub columns : List Member
 columns = bytes 196 ∷ words 64 ∷ []

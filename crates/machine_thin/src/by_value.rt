@@ -3,7 +3,7 @@ ghost use Rattle.model.specs.Fields.{Proper};
 ghost use Rattle.model.specs.Kinds.{stepUses};
 ghost use Rattle.machine_state.specs.Packed.{stateOf, columnsOf};
 ghost use Rattle.machine.specs.Ready.{Ready, Steps};
-use machine::step as parts;
+use machine::step as core;
 use machine_state::state::Machine;
 use model::answer::Attempt;
 use model::record::Record;
@@ -25,7 +25,7 @@ pub fn step(program: Program, m: Machine, e: Record) -> Moved
     let mut locations = m.locations;
     let mut values = m.values;
     let mut marks = m.marks;
-    let attempt = parts::step(
+    let attempt = core::step(
         &codes,
         &constants,
         &mut cells,

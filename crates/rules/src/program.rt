@@ -28,8 +28,8 @@ pub const EXCHANGE: u8 = 8;
 
 pub const EXCHANGE_ADD: u8 = 10;
 
-// Past the last program step, and past the last instruction.
-pub const NONE: u8 = 0;
+// Past the last program step.
+const NONE: u8 = 0;
 
 // No instruction has more program steps.
 const PHASES: usize = 4;

@@ -1,4 +1,4 @@
--- What the code does to its arrays is what the model does to its machine.
+-- What the code does to program and cells is what the model does to its machine.
 use mathlib.Core.Path.{_≡_, refl, ap, _∙_}
 use mathlib.Core.List.{[], _++_}
 use Prim.Native.Nat.{ℕ, suc, _+_, _*_, _<_}

@@ -1,4 +1,4 @@
--- The arrays hold what the entries so far give: then the code's tests are the model's, and each record that passes them keeps it so.
+-- Program and cells hold what the entries so far give: then the code's tests are the model's, and each record that passes them keeps it so.
 use mathlib.Core.Path.{_≡_, refl, sym, ap, _∙_}
 use mathlib.Core.Bool.{Bool, true, false, cond, _||_, or-false, or-true}
 use mathlib.Core.Option.{some, none}

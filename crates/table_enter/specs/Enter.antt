@@ -1,4 +1,4 @@
--- A record entered into the code's arrays.
+-- A record entered into program and cells.
 use mathlib.Core.Path.{_≡_}
 use mathlib.Core.Bool.{Bool, true, cond}
 use mathlib.Core.List.{_++_}

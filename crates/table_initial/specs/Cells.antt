@@ -1,4 +1,4 @@
--- An initial record entered into the code's arrays.
+-- An initial record entered into the cells.
 use mathlib.Core.Path.{_≡_}
 use mathlib.Core.Bool.{cond}
 use Prim.Native.Nat.{ℕ}

@@ -2,7 +2,7 @@
 ghost use Rattle.machine_state.specs.Packed.{stateIn, columnsIn};
 ghost use Rattle.machine.specs.Ready.{Ready};
 ghost use Rattle.trace.specs.Follows.{Takes, Follows};
-use crate::tests;
+use crate::event;
 use machine::step;
 use machine_state::state::Machine;
 use model::answer::Attempt;
@@ -28,7 +28,7 @@ fn take_record<'a>(
         (stateIn (now (cells .entry)) (now (locations .entry)) (now (values .entry)) (now (marks .entry)))
         i e v (stateIn (now (cells .exit)) (now (locations .exit)) (now (values .exit)) (now (marks .exit))) ⌝ }
 {
-    match tests::misread(i, e) {
+    match event::misread(i, e) {
         Verdict::Refused(why, place) => Verdict::Refused(why, place),
         Verdict::Passed => {
             match step::step(codes, constants, cells, locations, values, marks, e) {

@@ -1,7 +1,7 @@
 use borrow.Author.Needs.{needs}
 use native.Mathlib.Omega.{arith}
 use mathlib.Core.Path.{_≡_, sym, _∙_}
-use Prim.Native.Nat.{_+_, _<_, _≤_}
+use Prim.Native.Nat.{_<_, _≤_}
 use lib.ListN.{getD}
 use Rattle.rules.specs.Steps.{stepKind}
 use Rattle.machine_state.specs.Packed.{standsAt, phaseAt, countsIn}
@@ -32,13 +32,11 @@ is-next k = k .if3 .left ∙ k .before .before .step-kind .ensures
 drain-requires : tie.Need-drain-requires
 drain-requires c κs =
     let s = c .before .before .before .before .before .before in
-    let a = s .args in
     can-drain _ _ _ _ _ _ (s .pre .0) (s .args .e) (s .pre .1)
 
 returns : tie.Need-returns
 returns c =
     let s = c .before .before .before .before .before .before .before in
-    let a = s .args in
     drains-it _ _ _ _ _ _ (s .pre .0) (s .args .e) (s .pre .1)
     (c .before .before .before .before .before .if1 .taken) _ _ _ (c .drain .ensures)
 
@@ -82,7 +80,6 @@ returns-3 : tie.Need-returns-3
 returns-3 c =
     let i = c .before .before .before .before in
     let s = begun i in
-    let a = s .args in
     another _ _ _ _ _ _ (s .pre .0) (s .args .e) (s .pre .1)
     (inside i) _ (i .instruction .ensures) (is-program i) (λ z. c .if3 .taken (z ∙ sym (c .before .before .step-kind .ensures)))
 
@@ -91,7 +88,6 @@ take-next-requires c κs =
     let k = c .before .before .before .before in
     let i = fetched k in
     let s = begun i in
-    let a = s .args in
     may-take _ _ _ _ _ _ (s .pre .0) (s .args .e) (s .pre .1)
     (inside i) _ (i .instruction .ensures) (is-program i) (is-next k)
 
@@ -101,7 +97,6 @@ advance-requires c κs =
     let k = call .before .before .before .before .before in
     let i = fetched k in
     let s = begun i in
-    let a = s .args in
     onwards _ _ _ _ _ _ (s .pre .0) (s .args .e) (s .pre .1)
     (inside i) _ (i .instruction .ensures) (is-program i) (is-next k) _ _ _ _ _ (call .take-next .ensures)
 
@@ -111,7 +106,6 @@ returns-4 c =
     let k = call .before .before .before .before .before in
     let i = fetched k in
     let s = begun i in
-    let a = s .args in
     takes-it _ _ _ _ _ _ (s .pre .0) (s .args .e) (s .pre .1)
     (inside i) _ (i .instruction .ensures) (is-program i) (is-next k) _ _ _ _ _ (call .take-next .ensures) (c .before .before .enum-told .given .1) _ (c .advance .ensures)
 
@@ -121,7 +115,6 @@ returns-5 c =
     let k = call .before .before .before .before .before in
     let i = fetched k in
     let s = begun i in
-    let a = s .args in
     turns-it _ _ _ _ _ _ (s .pre .0) (s .args .e) (s .pre .1)
     (inside i) _ (i .instruction .ensures) (is-program i) (is-next k) _ _ _ _ _ (call .take-next .ensures) _ (c .before .why .given .1)
 

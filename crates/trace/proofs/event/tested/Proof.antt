@@ -1,7 +1,7 @@
 use Rattle.trace.proofs.Events.{wrong-field, well-formed}
 use borrow.Author.Needs.{needs}
-use Rattle.trace.proofs.tests.tested.Statement.{statement}
-use Rattle.trace.proofs.tests.tested.Tie as tie
+use Rattle.trace.proofs.event.tested.Statement.{statement}
+use Rattle.trace.proofs.event.tested.Tie as tie
 
 returns : tie.Need-returns
 returns c =

@@ -1,8 +1,8 @@
 use Rattle.trace.proofs.Events.{known, located, bare, kind-none, kind-above}
 use native.Mathlib.Omega.{arith}
 use borrow.Author.Needs.{needs}
-use Rattle.trace.proofs.tests.misread.Statement.{statement}
-use Rattle.trace.proofs.tests.misread.Tie as tie
+use Rattle.trace.proofs.event.misread.Statement.{statement}
+use Rattle.trace.proofs.event.misread.Tie as tie
 
 tested-requires : tie.Need-tested-requires
 tested-requires c κs =
