@@ -1,10 +1,12 @@
 -- The reply to a check, by the state that the trace leads to.
 use mathlib.Core.Bool.{cond}
 use mathlib.Core.List.{List}
-use Prim.Native.Nat.{ℕ}
-use lib.ListN.{take}
+use Prim.Native.Nat.{ℕ, _/_}
+use lib.ListN.{length, take}
+use Rattle.model.specs.declared.answer.Verdict.{Verdict}
+use Rattle.model.specs.declared.answer.Verdict.the-variants.{Passed, Refused}
 use Rattle.model.specs.Sizes.{resultWords}
-use Rattle.model.specs.Reply.{Reply, refuse}
+use Rattle.model.specs.Reply.{Reply, refuse, numberOf}
 use Rattle.model.specs.Calls.{written}
 use Rattle.machine_state.specs.Packed.{atIn, issuedIn, drainedIn, countsIn}
 use Rattle.machine_finished.specs.Finished.{finishedIn}
@@ -15,3 +17,9 @@ unfolding written
 reportedIn codes cells marks steps room =
     cond (finishedIn (atIn marks) (countsIn codes) (drainedIn marks) (issuedIn marks)) (written steps resultWords (take resultWords cells) room)
     (refuse 12 steps room)
+
+-- with the verdict of the trace
+unfoldable pub repliedIn : (codes cells marks : List ℕ) → Verdict → (trace room : List ℕ) → Reply
+unfolding reportedIn
+repliedIn codes cells marks Passed trace room = reportedIn codes cells marks (length trace / 8) room
+repliedIn codes cells marks (Refused why place) trace room = refuse (numberOf why) place room

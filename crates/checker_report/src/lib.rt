@@ -1,2 +1,3 @@
 // The result of a check, written into the lent room.
-pub mod report;
+pub mod reply;
+mod report;

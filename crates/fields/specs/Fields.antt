@@ -16,9 +16,6 @@ unfoldable pub rowOf : List (List Field) → ℕ → List Bool
 unfolding among
 rowOf uses kind = bools (getD uses kind [])
 
-abbrev pub unknownBy : ℕ → Record → Bool
-unknownBy rows r = eqb (r .kind) 0 || leb rows (r .kind)
-
 abbrev pub tooLargeBy : ℕ → ℕ → ℕ → List Bool → Record → Bool
 tooLargeBy processors registers locations used r =
     (getD used 0 false && leb processors (r .processor)) || (getD used 1 false && leb registers (r .register))

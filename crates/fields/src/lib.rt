@@ -1,17 +1,9 @@
 // The tests of a record's fields. `used` is its kind's row: does the kind use processor, register, location, value?
 ghost use mathlib.Core.Path.{_≡_};
-ghost use Rattle.fields.specs.Fields.{unknownBy, tooLargeBy, notZeroBy};
+ghost use Rattle.fields.specs.Fields.{tooLargeBy, notZeroBy};
 use model::record::Record;
 use model::table::Cells;
 use model::table::Program;
-
-// The kind is 0 or above the last, where a table of kinds has `rows` rows.
-pub fn unknown(rows: usize, r: Record) -> bool
-    ensures { λ x. ⌜ x ≡ unknownBy rows r ⌝ }
-{
-    let kind = r.kind as usize;
-    (kind == 0) | (rows <= kind)
-}
 
 // A processor, register or location is used and too large.
 pub fn too_large(used: [bool; 4], r: Record) -> bool

@@ -1,2 +1,3 @@
 // Finishing a run: the steps that complete it.
-pub mod complete;
+mod complete;
+pub mod finish;

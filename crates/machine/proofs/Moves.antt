@@ -161,7 +161,8 @@ module _ (g : Columns) (m : State) (ready : Ready g m) (i : Record) (own : Own i
         pushes = pushed-changes g m p x v (own .processor) (ready .long) bounds r
 
         go : (b : Bool) → withProcessor M p (advanced (withExchange b (writeOf x v) (processor M p)) rest)
-            ≡ machineOf g (advancedIn (parts (cond b (set (m .registers) (registerOf i) (getD (m .kept) p 0)) (m .registers)) (m .memory) (m .kept) (m .at) (m .phase) (set (m .locations) (placeAt p n) x) (set (m .values) (placeAt p n) v) (set (m .issued) p (n + 1)) (m .drained) (m .holder) (m .free)) i)
+            ≡ machineOf g (advancedIn (parts (cond b (set (m .registers) (registerOf i) (getD (m .kept) p 0)) (m .registers)) (m .memory) (m .kept) (m .at) (m .phase)
+            (set (m .locations) (placeAt p n) x) (set (m .values) (placeAt p n) v) (set (m .issued) p (n + 1)) (m .drained) (m .holder) (m .free)) i)
         go true = sym (stepped (assignedIn (pushedIn m p x v) i (getD (m .kept) p 0)) (withExchange true (writeOf x v)) refl refl (exchange-changes x v pushes))
         go false = sym (stepped (pushedIn m p x v) (withWrite g (writeOf x v)) refl refl pushes)
 

@@ -7,7 +7,7 @@ use lib.ListN.{replicate}
 use lib.Dec.{lit<}
 use Rattle.model.specs.declared.table.Cells.{Cells}
 use Rattle.model.specs.Sizes.{processors, registersEach}
-use Rattle.model.specs.Code.{Columns, row, stepsFrom, countIn, processorAtStart, startOf, Fits, Sized}
+use Rattle.model.specs.Code.{Columns, row, unread, stepsFrom, countIn, processorAtStart, startOf, Fits, Sized}
 use Rattle.model.proofs.Columns.{few-writes}
 use Rattle.model.proofs.Rows.{alike}
 use Rattle.machine.specs.View.{waitingIn, todoIn, processorOf, holderOf, machineOf}
@@ -23,7 +23,7 @@ module _ (g : Columns) (c : Cells) where
 
   start-waiting : (p : ℕ) → waitingIn (startIn c) p ≡ []
   unfolding waitingIn
-  start-waiting p = rw (alike {A = ℕ} 0 4 p) (part-none (16 * p + 0) (replicate 64 0) (replicate 64 0))
+  start-waiting p = rw (alike {A = ℕ} 0 4 p) (part-none (16 * p + 0) (replicate 64 0) (replicate 64 unread))
 
   processor-at-start : (p : ℕ) → processorOf g (startIn c) p ≡ processorAtStart g c p
   unfolding processorOf processorAtStart

@@ -4,7 +4,7 @@ use mathlib.Core.List.{List}
 use Prim.Native.Nat.{ℕ, _*_}
 use lib.ListN.{getD, replicate}
 use lib.Dec.{eqb}
-use Rattle.model.specs.Code.{registerOf}
+use Rattle.model.specs.Code.{registerOf, unread}
 use Rattle.model.specs.declared.record.Record.{Record}
 use Rattle.model.specs.declared.table.Cells.{Cells}
 use Rattle.model.specs.Sizes.{processors, instructionsEach}
@@ -17,8 +17,8 @@ use Rattle.machine_state.specs.State.{State, parts}
 abbrev pub startIn : Cells → State
 startIn c =
     let zeros : List ℕ = replicate processors 0 in
-    let log : List ℕ = replicate (processors * instructionsEach) 0 in
-    parts (c .registers) (c .memory) zeros zeros zeros log log zeros zeros nobody (replicate 3 0)
+    let log : ℕ → List ℕ = replicate (processors * instructionsEach) in
+    parts (c .registers) (c .memory) zeros zeros zeros (log 0) (log unread) zeros zeros nobody (replicate 3 0)
 
 -- ---- the step that a processor can come to in it
 

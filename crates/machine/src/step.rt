@@ -13,14 +13,14 @@ use model::table::Program;
 use rules::program;
 use rules::program::DRAIN;
 
-// Attempts the step e. If it is turned down, nothing changes.
+// Attempts the step e. If it is turned down, nothing changes. The arrays come as they stand in Program and Machine.
 pub fn step<'a>(
     codes: &'a [u8; Program::CODES],
     constants: &'a [u32; Program::PLACES],
+    marks: &'a mut [usize; Machine::MARKS],
+    values: &'a mut [u32; Program::PLACES],
     cells: &'a mut [u32; Machine::CELLS],
     locations: &'a mut [u8; Program::PLACES],
-    values: &'a mut [u32; Program::PLACES],
-    marks: &'a mut [usize; Machine::MARKS],
     e: Record,
 ) -> Attempt
     requires { ⌜ Ready (columnsIn (now codes) (now constants)) (stateIn (now cells) (now locations) (now values) (now marks))

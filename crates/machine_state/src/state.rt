@@ -2,15 +2,16 @@
 use model::table::Cells;
 use model::table::Program;
 
-// In `cells` the registers of all processors, memory, and what each one's exchange keeps aside; the first Cells::WORDS of them are the result.
-// In `locations` and `values` the log of issued writes, those of processor p at Program::INSTRUCTIONS * p and on.
 // In `marks` who holds the lock, or NOBODY, and room for three more numbers; then for each processor the instruction that it stands at, how many program
 // steps of it are taken, and how many of its writes are issued, and drained. Those between wait.
+// In `cells` the registers of all processors, memory, and what each one's exchange keeps aside; the first Cells::WORDS of them are the result.
+// In `values` and `locations` the log of issued writes, those of processor p at Program::INSTRUCTIONS * p and on.
+// The marks come first: LLVM knows that what is stored behind them does not change them. The values come between what is zero at the start (see Program::UNREAD).
 pub struct Machine {
+    pub marks: [usize; Machine::MARKS],
+    pub values: [u32; Program::PLACES],
     pub cells: [u32; Machine::CELLS],
     pub locations: [u8; Program::PLACES],
-    pub values: [u32; Program::PLACES],
-    pub marks: [usize; Machine::MARKS],
 }
 
 impl Machine {

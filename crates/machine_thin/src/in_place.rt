@@ -17,10 +17,10 @@ pub fn step_in_place(program: &Program, m: &mut Machine, e: Record) -> Attempt
     step::step(
         &program.codes,
         &program.constants,
+        &mut m.marks,
+        &mut m.values,
         &mut m.cells,
         &mut m.locations,
-        &mut m.values,
-        &mut m.marks,
         e,
     )
 }

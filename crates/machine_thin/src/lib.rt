@@ -1,3 +1,2 @@
-// One step on a program and a machine as structs: thin.
-pub mod by_value;
+// One step on a program and a machine where they lie: thin.
 pub mod in_place;

@@ -61,6 +61,10 @@ registerOf r = registersEach * r .processor + r .register
 abbrev pub placeAt : ℕ → ℕ → ℕ
 placeAt p n = instructionsEach * p + n
 
+-- what stands where no value has been entered or issued
+abbrev pub unread : ℕ
+unread = 1
+
 -- one for each processor
 abbrev pub four : {A : Type 0} → (ℕ → A) → List A
 four f = f 0 ∷ f 1 ∷ f 2 ∷ f 3 ∷ []

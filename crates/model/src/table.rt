@@ -28,6 +28,10 @@ impl Program {
 
     pub const CODES: usize = Self::COUNTS + Self::PROCESSORS;
 
+    // Stands where no value has been entered or issued; nothing reads it. It is not zero since LLVM zeroes what lies side by side, when it is more than 256 bytes,
+    // by a call of memset, which the library would need of the program that it is linked to.
+    pub const UNREAD: u32 = 1;
+
     // Steps in the longest finished trace: no instruction takes more than five.
     pub const LONGEST: usize = Self::PLACES * 5;
 }

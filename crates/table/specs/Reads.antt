@@ -6,7 +6,7 @@ use lib.ListN.{replicate}
 use Rattle.model.specs.declared.answer.Verdict.{Verdict}
 use Rattle.model.specs.declared.table.Cells.{Cells}
 use Rattle.model.specs.Sizes.{processors, registersEach, locations, instructionsEach}
-use Rattle.model.specs.Code.{Columns, columns, cellsOf, testedOf, startOf, Fits, Sized}
+use Rattle.model.specs.Code.{Columns, columns, cellsOf, unread, testedOf, startOf, Fits, Sized}
 use Rattle.model.specs.Reading.{reading}
 use Rattle.model.specs.Table.{start}
 use Rattle.model.specs.Tests.{andThen, passed}
@@ -16,7 +16,7 @@ use Rattle.model.specs.Tests.{andThen, passed}
 abbrev pub noProgram : Columns
 noProgram =
     let zeros : List ℕ = replicate (processors * instructionsEach) 0 in
-    columns zeros zeros zeros zeros (replicate processors 0)
+    columns zeros zeros zeros (replicate (processors * instructionsEach) unread) (replicate processors 0)
 
 abbrev pub noCells : Cells
 noCells = cellsOf (replicate (processors * registersEach) 0) (replicate locations 0)

@@ -11,7 +11,7 @@ use model::table::Program;
 use record::bytes;
 use table_enter::enter;
 
-// The program and the cells that a table gives, if it is not refused. Codes, constants, registers and memory are zero before.
+// The program and the cells that a table gives, if it is not refused. Codes, registers and memory are zero before.
 pub fn read<'a>(
     codes: &'a mut [u8; Program::CODES],
     constants: &'a mut [u32; Program::PLACES],

@@ -5,8 +5,6 @@ use mathlib.Core.List.{List, [], _∷_}
 use Prim.Native.Nat.{ℕ, zero, suc, _≤_, _<_}
 use native.Mathlib.Omega.{arith}
 use lib.ListN.{length}
-use lib.Dec.{eqb, leb}
-use borrow.Author.Tests.{ne-eqb, le-leb}
 use Rattle.model.specs.declared.record.Record.{Record}
 use Rattle.model.specs.declared.answer.Refusal.the-variants.{StepKind, StepField}
 use Rattle.model.specs.declared.answer.Verdict.the-variants.{Passed, Refused}
@@ -19,8 +17,8 @@ use Rattle.model.specs.Calls.{stepTests}
 use Rattle.model.proofs.Fields.{known-test}
 use Rattle.model.proofs.Rows.{below}
 use Rattle.model.proofs.Verdicts.{met, past, none-left}
-use Rattle.fields.specs.Fields.{rowOf, unknownBy, tooLargeBy, notZeroBy}
-use Rattle.fields.proofs.Tests.{unknown-is, too-large-is, not-zero-is}
+use Rattle.fields.specs.Fields.{rowOf, tooLargeBy, notZeroBy}
+use Rattle.fields.proofs.Tests.{unknown-none, unknown-above, too-large-is, not-zero-is}
 
 rows : length stepUses ≡ 8
 unfolding stepUses
@@ -46,19 +44,13 @@ bare (suc (suc zero)) l h = absurd (omega arith)
 bare (suc (suc (suc zero))) l h = absurd (omega arith)
 
 module _ (i : ℕ) (e : Record) where
-  unknown : unknownBy 8 e ≡ true → Gives (Refused StepKind i) (stepTests e) i
-  unfolding stepTests
-  unknown y = met StepKind i (unknownBy 8 e) _ _ (unknown-is stepUses 8 rows e) y
-
   pub kind-none : e .kind < 1 → Gives (Refused StepKind i) (stepTests e) i
-  kind-none l = unknown (go (e .kind) l)
-    where
-      go : (k : ℕ) → k < 1 → (eqb k 0 || leb 8 k) ≡ true
-      go zero l = refl
-      go (suc k) l = absurd (omega arith)
+  unfolding stepTests
+  kind-none l = met StepKind i _ _ _ refl (unknown-none stepUses e l)
 
   pub kind-above : 8 ≤ e .kind → Gives (Refused StepKind i) (stepTests e) i
-  kind-above l = unknown (λ j. ne-eqb (e .kind) 0 (λ z. omega (arith, z)) j || le-leb 8 (e .kind) l j)
+  unfolding stepTests
+  kind-above l = met StepKind i _ _ _ refl (unknown-above stepUses e (omega (arith, rows)))
 
   -- l, z are what the two tests gave
   module _ (is-known : Known stepUses e) (l z : Bool) (row : List Bool) (r : row ≡ rowOf stepUses (e .kind))

@@ -1,112 +1,148 @@
--- Following a trace: one record, and then the others.
-use mathlib.Core.Path.{_≡_, sym, ap, _∙_}
+-- The turns of following a trace: what each makes of what is known before it.
+use mathlib.Core.Path.{_≡_, refl, sym, _∙_}
+use mathlib.Core.Bool.{Bool, true, false}
 use mathlib.Core.List.{List, _∷_}
-use Prim.Native.Nat.{ℕ, suc, _+_, _-_, _/_, _%_, _≤_, _<_}
+use Prim.Native.Nat.{ℕ, suc, _+_, _-_, _/_, _%_, _≤_, _<_, _^_}
 use native.Mathlib.Numerals.{add-one}
 use native.Mathlib.Omega.{arith}
 use lib.ListN.{length}
 use Rattle.model.specs.declared.record.Record.{Record}
-use Rattle.model.specs.declared.answer.Refusal.{Refusal}
 use Rattle.model.specs.declared.answer.Attempt.{Attempt}
 use Rattle.model.specs.declared.answer.Attempt.the-variants.{Taken, Turned}
+use Rattle.model.specs.declared.answer.Refusal.{Refusal}
 use Rattle.model.specs.declared.answer.Refusal.the-variants.{TraceLength}
 use Rattle.model.specs.declared.answer.Verdict.{Verdict}
 use Rattle.model.specs.declared.answer.Verdict.the-variants.{Passed, Refused}
 use Rattle.model.specs.Record.{recordAt, recordsFrom, records}
 use Rattle.model.specs.Fields.{Proper}
 use Rattle.model.specs.Kinds.{stepUses}
-use Rattle.model.specs.Step.{step}
-use Rattle.model.specs.Tests.{passed, refused, andThen, inOrder, tooLarge, notZero}
+use Rattle.model.specs.Machine.{Machine}
+use Rattle.model.specs.Tests.{refused, andThen, inOrder, tooLarge, notZero}
 use Rattle.model.specs.Reply.{numberOf}
 use Rattle.model.specs.Calls.{stepTests, atPlace, takeRecord, following}
-use Rattle.model.specs.Code.{Columns, testedOf, Gives}
+use Rattle.model.specs.Code.{Columns, testedOf, Gives, steppedOf}
 use Rattle.model.proofs.Fields.{or-left, or-right, known-test, range-test, zero-test}
 use Rattle.model.proofs.InOrder.{in-order-more, in-order-stop, file-whole, file-not-whole}
+use Rattle.model.proofs.Tests.{passed-refused}
 use Rattle.model.proofs.Verdicts.{gives-none, gives-then}
 use Rattle.machine.specs.View.{machineOf}
 use Rattle.machine.specs.Ready.{Ready, Steps}
-use Rattle.trace.specs.Follows.{Takes, Follows}
 use Rattle.machine_state.specs.State.{State}
+use Rattle.trace.specs.Follows.{Follows}
+use Rattle.trace.specs.Turns.{verdictAt, Next, Looks, Stepped, Concludes}
 
--- ---- one record, which the tests of its fields gave v
+off-on : {B : Type 0} → false ≡ true → B
+off-on {B} e = let z : _≡_ {A = ℕ} 0 1 = cc in absurd (omega arith)
 
-module _ (g : Columns) (m : State) (i : ℕ) (e : Record) (v : Verdict) (given : Gives v (stepTests e) i) where
-  pub proper : v ≡ Passed → Proper stepUses e
+differ : {B : Type 0} {why : Refusal} {place : ℕ} → Refused why place ≡ Passed → B
+differ {B} {why} {place} e = let z : _≡_ {A = ℕ} 0 1 = cc in absurd (omega arith)
+
+-- ---- which record is stepped next, where v is the verdict so far
+
+module _ (trace : List ℕ) (i : ℕ) (v : Verdict) where
+  abbrev Nothing : Type 0
+  Nothing = (on : Bool) (e : Record) → on ≡ false → Looks trace i v on e
+
+  no : ¬ Next trace i v → Nothing
+  no n on e f = record { next = λ y. off-on (sym f ∙ y); fits = λ y. off-on (sym f ∙ y); is = λ y. off-on (sym f ∙ y); none = λ _. n }
+
+  pub not-going : (why : Refusal) (place : ℕ) → v ≡ Refused why place → Nothing
+  not-going why place p = no (λ n. differ (sym p ∙ n .going))
+
+  pub not-whole : ¬ (length trace % 8 ≡ 0) → Nothing
+  not-whole w = no (λ n. w (n .whole))
+
+  pub none-left : length trace / 8 ≤ i → Nothing
+  none-left l = no (λ n. let h = n .inside in absurd (omega arith))
+
+  -- record i is read, and the tests of its fields gave w
+  module _ (e : Record) (read : e ≡ recordAt trace i) (w : Verdict) (given : Gives w (stepTests e) i) where
+    pub misreads : (why : Refusal) (place : ℕ) → w ≡ Refused why place → Nothing
+    misreads why place p = no (λ n. passed-refused (n .passes .says ∙ sym (rw (p, read) at given .says)))
+
+    pub reads : v ≡ Passed → length trace % 8 ≡ 0 → i < length trace / 8 → w ≡ Passed → length trace < 2 ^ 64 → Looks trace i v true e
+    reads p o l q short = record { next = λ _. record { going = p; whole = o; inside = l; passes = rw (q, read) at given }; fits = λ _. omega arith; is = λ _. read; none = λ f. off-on (sym f) }
+
+-- ---- record i is stepped, or its fields are refused
+
+module _ (trace : List ℕ) (i : ℕ) (v : Verdict) (n : Next trace i v) where
+  pub proper : Proper stepUses (recordAt trace i)
   unfolding stepTests
-  proper p =
-      let n = gives-none v (stepTests e) i given p in
+  proper =
+      let e = recordAt trace i in
+      let h = gives-none Passed (stepTests e) i (n .passes) refl in
       record {
-        known = known-test stepUses e .0 (n .0);
-        inRange = range-test stepUses e .0 (or-left (tooLarge stepUses e) (notZero stepUses e) (n .1 .0));
-        unusedZero = zero-test stepUses e .0 (or-right (tooLarge stepUses e) (notZero stepUses e) (n .1 .0));
+        known = known-test stepUses e .0 (h .0);
+        inRange = range-test stepUses e .0 (or-left (tooLarge stepUses e) (notZero stepUses e) (h .1 .0));
+        unusedZero = zero-test stepUses e .0 (or-right (tooLarge stepUses e) (notZero stepUses e) (h .1 .0));
       }
 
-  tried : takeRecord i (machineOf g m) e ≡ andThen (testedOf {A = Unit {0}} v tt) (λ u. atPlace i (step (machineOf g m) e))
-  unfolding takeRecord
-  tried = gives-then v (stepTests e) i (atPlace i (step (machineOf g m) e)) given
+  steps : (g : Columns) (m : State) (r : Attempt) (m′ : State) → Steps g m (recordAt trace i) r m′ → takeRecord i (machineOf g m) (recordAt trace i) ≡ testedOf (verdictAt i r) (machineOf g m′)
+  unfolding takeRecord andThen atPlace
+  steps g m r m′ d = gives-then Passed (stepTests (recordAt trace i)) i _ (n .passes) ∙ rw (d .says) (go r)
+    where
+      go : (r : Attempt) → atPlace i (steppedOf r (machineOf g m′)) ≡ testedOf (verdictAt i r) (machineOf g m′)
+      go Taken = refl
+      go (Turned why) = refl
 
-  pub misreads : (why : Refusal) (place : ℕ) → v ≡ Refused why place → Ready g m → Takes g m i e (Refused why place) m
+misread : (i : ℕ) (e : Record) (why : Refusal) (place : ℕ) → Gives (Refused why place) (stepTests e) i → (m : Machine) → takeRecord i m e ≡ refused (numberOf why) place
+unfolding takeRecord andThen
+misread i e why place given m = gives-then (Refused why place) (stepTests e) i _ given
+
+-- ---- the whole trace
+
+module _ (g : Columns) (s : State) (before : Verdict) (trace : List ℕ) where
+  -- nothing is refused before it
+  follows : before ≡ Passed → (w : Verdict) (m : State) → testedOf w (machineOf g m) ≡ following (machineOf g s) trace → Ready g m → Follows g s before trace w m
   unfolding andThen
-  misreads why place p r = record { says = sym (tried ∙ rw p); ready = r }
+  follows p w m e r = record { says = rw p e; ready = r }
 
-  pub takes : v ≡ Passed → (r : Attempt) → r ≡ Taken → (n : State) → Steps g m e r n → Takes g m i e Passed n
-  unfolding andThen atPlace
-  takes p r y n s = record { says = sym (tried ∙ rw p (rw (s .says) (rw y))); ready = s .ready }
-
-  pub turns : v ≡ Passed → (r : Attempt) (why : Refusal) → r ≡ Turned why → (n : State) → Steps g m e r n → Takes g m i e (Refused why i) n
-  unfolding andThen atPlace
-  turns p r why y n s = record { says = sym (tried ∙ rw p (rw (s .says) (rw y))); ready = s .ready }
-
--- ---- the whole trace, from the state s
-
-module _ (g : Columns) (s : State) (trace : List ℕ) where
-  -- i records are followed, and m is the state
-  pub record Underway (m : State) (i n : ℕ) : Type 0 where
-    pub inside : i ≤ n
-    pub ready : Ready g m
-    pub rest : inOrder takeRecord i (machineOf g m) (recordsFrom trace i (n - i)) ≡ following (machineOf g s) trace
-
-  pub begins : Ready g s → length trace % 8 ≡ 0 → Underway s 0 (length trace / 8)
-  unfolding following records
-  begins r w = record {
-    inside = omega arith;
+  pub begun : Ready g s → Stepped g s before trace s 0 before
+  unfolding following records andThen
+  begun r = record {
     ready = r;
-    rest = let z : length trace / 8 - 0 ≡ length trace / 8 = omega arith in rw z (sym (file-whole 8 takeRecord (machineOf g s) trace w));
+    going = λ p. p;
+    rest = λ _ o. let z : length trace / 8 - 0 ≡ length trace / 8 = omega arith in rw z (sym (file-whole 8 takeRecord (machineOf g s) trace o));
+    stopped = λ why place p. record { says = rw p; ready = r };
   }
 
-  pub odd : Ready g s → ¬ (length trace % 8 ≡ 0) → Follows g s trace (Refused TraceLength (length trace / 8)) s
-  unfolding following
-  odd r w = record { says = sym (file-not-whole 8 takeRecord (machineOf g s) trace w); ready = r }
-
-  module _ (m : State) (i n : ℕ) (o : Underway m i n) where
-    pub ends : n ≤ i → Follows g s trace Passed m
-    unfolding inOrder recordsFrom
-    ends l = let h = o .inside in let z : n - i ≡ 0 = omega arith in record { says = rw z at (o .rest); ready = o .ready }
-
-    module _ (l : i < n) (e : Record) (read : e ≡ recordAt trace i) (v : Verdict) (m′ : State) (t : Takes g m i e v m′) where
-      more : recordsFrom trace i (n - i) ≡ e ∷ recordsFrom trace (suc i) (n - suc i)
+  module _ (m : State) (i : ℕ) (v : Verdict) (t : Stepped g s before trace m i v) where
+    -- record i, where there is one, and what it gives
+    module _ (p : v ≡ Passed) (o : length trace % 8 ≡ 0) (l : i < length trace / 8) where
+      left : inOrder takeRecord i (machineOf g m) (recordAt trace i ∷ recordsFrom trace (suc i) (length trace / 8 - suc i)) ≡ following (machineOf g s) trace
       unfolding recordsFrom
-      more = let z : n - i ≡ suc (n - suc i) = omega arith in rw (z, read)
+      left = let z : length trace / 8 - i ≡ suc (length trace / 8 - suc i) = omega arith in rw z at (t .rest p o)
 
-      pub stops : (why : Refusal) (place : ℕ) → v ≡ Refused why place → Follows g s trace (Refused why place) m′
-      stops why place p =
-          let j : takeRecord i (machineOf g m) e ≡ refused (numberOf why) place = sym (t .says) ∙ ap (λ (w : Verdict). testedOf w (machineOf g m′)) p in
-          record {
-            says = sym (
-                sym (o .rest) ∙ ap (inOrder takeRecord i (machineOf g m)) more
-                ∙ in-order-stop takeRecord i (machineOf g m) e (recordsFrom trace (suc i) (n - suc i)) (numberOf why) place j
-                );
-            ready = t .ready;
-          }
+      stops : (why : Refusal) (place : ℕ) (m′ : State) → takeRecord i (machineOf g m) (recordAt trace i) ≡ refused (numberOf why) place → Ready g m′ → Follows g s before trace (Refused why place) m′
+      stops why place m′ e = follows (t .going p) (Refused why place) m′ (sym (in-order-stop takeRecord i (machineOf g m) _ _ (numberOf why) place e) ∙ left)
 
-      pub goes-on : v ≡ Passed → Underway m′ (i + 1) n
-      goes-on p =
-          let j : takeRecord i (machineOf g m) e ≡ passed (machineOf g m′) = sym (t .says) ∙ ap (λ (w : Verdict). testedOf w (machineOf g m′)) p in
-          record {
-            inside = omega arith;
-            ready = t .ready;
-            rest =
-                rw add-one
-                (sym (in-order-more takeRecord i (machineOf g m) (machineOf g m′) e (recordsFrom trace (suc i) (n - suc i)) j)
-                ∙ ap (inOrder takeRecord i (machineOf g m)) (sym more) ∙ o .rest);
-          }
+    pub turned : Next trace i v → (r : Attempt) (n : State) → Steps g m (recordAt trace i) r n → (w : Verdict) → w ≡ verdictAt i r → Stepped g s before trace n (i + 1) w
+    turned x r n d w q = record {
+      ready = d .ready;
+      going = λ _. t .going (x .going);
+      rest = λ p _. rw add-one (sym (in-order-more takeRecord i (machineOf g m) (machineOf g n) _ _ (rw p at gave)) ∙ left (x .going) (x .whole) (x .inside));
+      stopped = λ why place p. stops (x .going) (x .whole) (x .inside) why place n (rw p at gave) (d .ready);
+    }
+      where
+        gave : takeRecord i (machineOf g m) (recordAt trace i) ≡ testedOf w (machineOf g n)
+        gave = rw q (steps trace i v x g m r n d)
+
+-- ---- the verdict, where no record is stepped next
+
+module _ (trace : List ℕ) (i : ℕ) (v : Verdict) where
+  pub odd : v ≡ Passed → ¬ (length trace % 8 ≡ 0) → Concludes trace i v (Refused TraceLength (length trace / 8))
+  unfolding following
+  odd p o g s m before t = follows g s before trace (t .going p) _ m (sym (file-not-whole 8 takeRecord (machineOf g s) trace o)) (t .ready)
+
+  pub ended : v ≡ Passed → length trace % 8 ≡ 0 → length trace / 8 ≤ i → Concludes trace i v Passed
+  unfolding inOrder recordsFrom
+  ended p o l g s m before t =
+      let z : length trace / 8 - i ≡ 0 = omega arith in
+      follows g s before trace (t .going p) Passed m (rw z at (t .rest p o)) (t .ready)
+
+  pub refuses : ¬ Next trace i v → v ≡ Passed → length trace % 8 ≡ 0 → i < length trace / 8 → (e : Record) → e ≡ recordAt trace i → (w : Verdict) → Gives w (stepTests e) i → Concludes trace i v w
+  refuses n p o l e read w given = go w (rw read at given)
+    where
+      go : (w : Verdict) → Gives w (stepTests (recordAt trace i)) i → Concludes trace i v w
+      go Passed given = absurd (n (record { going = p; whole = o; inside = l; passes = given }))
+      go (Refused why place) given = λ g s m before t. stops g s before trace m i v t p o l why place m (misread i (recordAt trace i) why place given (machineOf g m)) (t .ready)

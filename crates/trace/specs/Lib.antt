@@ -1,1 +1,2 @@
 pub mod Follows
+pub mod Turns

@@ -1,70 +1,28 @@
-// A trace, record by record.
-ghost use Rattle.machine_state.specs.Packed.{stateIn, columnsIn};
+// A trace, record by record, on the machine where it lies.
+ghost use Rattle.machine_state.specs.Packed.{stateOf, columnsOf};
 ghost use Rattle.machine.specs.Ready.{Ready};
-ghost use Rattle.trace.specs.Follows.{Takes, Follows};
-use crate::event;
-use machine::step;
+ghost use Rattle.trace.specs.Follows.{Follows};
+use crate::look;
 use machine_state::state::Machine;
-use model::answer::Attempt;
-use model::answer::Refusal;
+use machine_thin::in_place;
 use model::answer::Verdict;
-use model::record::Record;
 use model::table::Program;
-use record::bytes;
 
-// Record i of a trace: tested 9, 10, and then by the rules.
-fn take_record<'a>(
-    codes: &'a [u8; Program::CODES],
-    constants: &'a [u32; Program::PLACES],
-    cells: &'a mut [u32; Machine::CELLS],
-    locations: &'a mut [u8; Program::PLACES],
-    values: &'a mut [u32; Program::PLACES],
-    marks: &'a mut [usize; Machine::MARKS],
-    i: usize,
-    e: Record,
-) -> Verdict
-    requires { ⌜ Ready (columnsIn (now codes) (now constants)) (stateIn (now cells) (now locations) (now values) (now marks)) ⌝ }
-    ensures { λ v. ⌜ Takes (columnsIn (now (codes .entry)) (now (constants .entry)))
-        (stateIn (now (cells .entry)) (now (locations .entry)) (now (values .entry)) (now (marks .entry)))
-        i e v (stateIn (now (cells .exit)) (now (locations .exit)) (now (values .exit)) (now (marks .exit))) ⌝ }
+// The whole trace, from the verdict of the table on: where the table is refused, no record is stepped.
+pub fn follow_in_place(program: &Program, m: &mut Machine, read: Verdict, trace: &[u8]) -> Verdict
+    requires { ⌜ Ready (columnsOf (now program)) (stateOf (now m)) ⌝ }
+    ensures { λ v. ⌜ Follows (columnsOf (now (program .entry))) (stateOf (now (m .entry))) read (now (trace .entry)) v (stateOf (now (m .exit))) ⌝ }
 {
-    match event::misread(i, e) {
-        Verdict::Refused(why, place) => Verdict::Refused(why, place),
-        Verdict::Passed => {
-            match step::step(codes, constants, cells, locations, values, marks, e) {
-                Attempt::Taken => Verdict::Passed,
-                Attempt::Turned(why) => Verdict::Refused(why, i),
-            }
+    let mut i: usize = 0;
+    let mut known = read;
+    loop {
+        let seen = look::look(trace, i, known);
+        if !seen.on {
+            break;
         }
+        let attempt = in_place::step_in_place(program, m, seen.e);
+        known = look::verdict_at(i, attempt);
+        i += 1;
     }
-}
-
-// The whole trace.
-pub fn follow<'a>(
-    codes: &'a [u8; Program::CODES],
-    constants: &'a [u32; Program::PLACES],
-    cells: &'a mut [u32; Machine::CELLS],
-    locations: &'a mut [u8; Program::PLACES],
-    values: &'a mut [u32; Program::PLACES],
-    marks: &'a mut [usize; Machine::MARKS],
-    trace: &[u8],
-) -> Verdict
-    requires { ⌜ Ready (columnsIn (now codes) (now constants)) (stateIn (now cells) (now locations) (now values) (now marks)) ⌝ }
-    ensures { λ v. ⌜ Follows (columnsIn (now (codes .entry)) (now (constants .entry)))
-        (stateIn (now (cells .entry)) (now (locations .entry)) (now (values .entry)) (now (marks .entry)))
-        (now (trace .entry)) v (stateIn (now (cells .exit)) (now (locations .exit)) (now (values .exit)) (now (marks .exit))) ⌝ }
-{
-    let n = trace.len() / Record::BYTES;
-    if trace.len() % Record::BYTES != 0 {
-        return Verdict::Refused(Refusal::TraceLength, n);
-    }
-    let mut i = 0;
-    while i < n {
-        let e = bytes::read_record(trace, i);
-        match take_record(codes, constants, cells, locations, values, marks, i, e) {
-            Verdict::Refused(why, place) => return Verdict::Refused(why, place),
-            Verdict::Passed => i += 1,
-        }
-    }
-    Verdict::Passed
+    look::concluded(trace, i, known)
 }

@@ -1,25 +1,21 @@
-use Rattle.table_initial.proofs.Forms.{rows}
-use Rattle.fields.proofs.Tests.{unknown-is, known-row}
+use Rattle.table_initial.proofs.Forms.{rows, known}
+use Rattle.fields.proofs.Tests.{unknown-none, unknown-above}
 use Rattle.fields.specs.Fields.{rowOf}
 use Rattle.model.proofs.Verdicts.{met}
 use Rattle.model.proofs.Rows.{below}
-use Rattle.model.proofs.Fields.{known-test}
 use Rattle.model.specs.Kinds.{tableKinds, tableRows, tableUses}
-use Rattle.model.specs.Fields.{Known, among}
+use Rattle.model.specs.Fields.{among}
 use native.Mathlib.Omega.{arith}
 use Prim.Native.Nat.{ℕ, zero, suc, _<_}
 use mathlib.Core.List.{[], _∷_}
 use mathlib.Core.Bool.{true, false}
 use mathlib.Core.Logic.{_⊎_, inl, inr}
-use mathlib.Core.Path.{_≡_, refl, sym, _∙_}
+use mathlib.Core.Path.{_≡_, refl}
 use borrow.Author.Needs.{needs}
 use Rattle.table_initial.proofs.kinds.malformed.Statement.{statement}
 use Rattle.table_initial.proofs.kinds.malformed.Tie as tie
 
-known : (c : tie.Else1) → Known tableUses (c .before .before .args .r)
-known c = let r = c .before .before .args .r in known-test tableUses r .0 (sym (c .before .unknown .ensures ∙ unknown-is tableUses tableRows rows r) ∙ c .if1 .left)
-
--- what the last arm is told
+-- what the arm of the exchanges is told
 abbrev Left : ℕ → Type 0
 Left k = (((Unit {0} × ¬ (k ≡ 1)) × ¬ ((k ≡ 2) ⊎ (k ≡ 6))) × ¬ (k ≡ 3)) × ¬ (k ≡ 7)
 
@@ -36,41 +32,47 @@ left (suc (suc (suc (suc k)))) z h n =
     below 8 (λ j. Left (suc (suc (suc (suc j)))) → AllButValue (suc (suc (suc (suc j)))))
     (λ n. refl, (λ n. refl, (λ n. absurd (n .0 .0 .1 (inr refl)), (λ n. absurd (n .1 refl), (λ n. refl, (λ n. refl, (λ n. refl, (λ n. refl, tt)))))))) k (omega arith) n
 
-returns : tie.Need-returns
-returns c =
-    met _ _ _ _ _ (c .before .unknown .ensures ∙ unknown-is tableUses tableRows rows (c .before .before .args .r)) (c .if1 .taken)
-
 tested-requires : tie.Need-tested-requires
 unfolding rowOf tableUses tableKinds among
 tested-requires c κs =
-    (known (c .before), rw (c .match .keys1))
+    (known (c .before .args .r) (omega arith) (omega arith), rw (c .match .keys1))
 
 tested-requires-2 : tie.Need-tested-requires-2
 unfolding rowOf tableUses tableKinds among
 tested-requires-2 c κs =
-    (known (c .before), elim (c .match .keys2) [ inl e ↦ rw e | inr e ↦ rw e ])
+    let r = c .before .args .r in
+    elim (c .match .keys2) [ inl e ↦ (known r (omega arith) (omega arith), rw e) | inr e ↦ (known r (omega arith) (omega arith), rw e) ]
 
 tested-requires-3 : tie.Need-tested-requires-3
 unfolding rowOf tableUses tableKinds among
 tested-requires-3 c κs =
-    (known (c .before), rw (c .match .keys3))
+    (known (c .before .args .r) (omega arith) (omega arith), rw (c .match .keys3))
 
 tested-requires-4 : tie.Need-tested-requires-4
 unfolding rowOf tableUses tableKinds among
 tested-requires-4 c κs =
-    (known (c .before), rw (c .match .keys4))
+    (known (c .before .args .r) (omega arith) (omega arith), rw (c .match .keys4))
 
 tested-requires-5 : tie.Need-tested-requires-5
 tested-requires-5 c κs =
     let r = c .before .before .before .args .r in
-    (known (c .before), left (r .kind) (known (c .before) .0) (known-row tableUses tableRows rows r _ (c .before .before .unknown .ensures) (c .before .if1 .left)) (c .match .rest))
+    let l = c .before .if1 .left in
+    let h = c .if2 .taken in
+    (known r (omega arith) (omega arith), left (r .kind) (omega arith) (omega arith) (c .before .before .match .rest))
+
+returns-6 : tie.Need-returns-6
+returns-6 c =
+    met _ _ _ _ _ refl (unknown-none tableUses (c .before .before .args .r) (c .if1 .taken))
+
+returns-7 : tie.Need-returns-7
+returns-7 c =
+    let h = c .if2 .left in
+    met _ _ _ _ _ refl (unknown-above tableUses (c .before .before .before .args .r) (omega (arith, rows)))
 
 pub malformed-spec : {M : Type 1} → statement M
 malformed-spec =
     tie.close
     (tie.spec
-    (λ c κs. search needs)
-    returns
     tested-requires
     tested-requires-2
     tested-requires-3
@@ -80,4 +82,6 @@ malformed-spec =
     (λ c. search needs)
     (λ c. search needs)
     (λ c. search needs)
-    (λ c. search needs))
+    (λ c. search needs)
+    returns-6
+    returns-7)
