@@ -1,4 +1,9 @@
 """A walk's context, simulated: names stand for its entries, and the numbers of `move`, `keep`, `look`, `init`, `forget` and `free1` are counted here."""
+from collections import namedtuple
+
+# of a call what its contract says: the callee, its lifetimes, the arguments that its triple binds, the tokens that come back, the result's type, the type of the last values, and the fact said(r, last)
+Told = namedtuple('Told', 'name lfts bound alive result ends said')
+
 SUB = '₀₁₂₃₄₅₆₇₈₉'
 
 
@@ -166,11 +171,13 @@ class Cx:
         self.put('calls-at ! (fmOf 𝓤 H (W .laws) 𝓣) (On-%s 𝓤 H A at-mem run) (known .of-%s) %s' % (name, name, ghost)).nl()
         return self.put('%s (λ %s.' % (self.operands(ops), w)).rep(1, 'post')
 
-    def told(self, name, alive, row, type_, r, w, lfts, args, ends, last, said):
-        """What `name` ensures of a result r and of last values `last`; said(r, last) is the fact, told-r its proof. Leaves [lasts; own; alive; ..]."""
-        self.nl().put('use1 W (later (some (λ (r : %s). (%s ⊛ ‵ (%s .own r (%s ∷ []))) ⊛ raw (ensured 𝓤 H A %s.ended (%s.clauses 𝓤 H A at-mem run) %s %s tt r)))) (id⊢ 𝓤 _) $' % (type_, alive, row, w, name, name, lfts, args))
+    def told(self, call, r, w, last):
+        """What the callee ensures of a result r, whose value is w, and of last values `last`: told-r proves it. Leaves [lasts; own; alive; ..]."""
+        g, where = call.name, '%s %s' % (call.lfts, call.bound)
+        own = '‵ (%s .own r (%s ∷ []))' % (call.result.row, w)
+        self.nl().put('use1 W (later (some (λ (r : %s). (%s ⊛ %s) ⊛ raw (ensured 𝓤 H A %s.ended (%s.clauses 𝓤 H A at-mem run) %s tt r)))) (id⊢ 𝓤 _) $' % (call.result.name, call.alive, own, g, g, where))
         self.wait().pick(r).rep(1, 'all').split('alive-own', 'ensured').mv('ensured').nl()
-        self.put('use1 W (some (λ (ws : %s). ‵ (lasts %s.ended %s %s ws) ⊛ raw (fact 𝓤 (%s)))) (id⊢ 𝓤 _) $' % (ends, name, lfts, args, said(r, 'ws'))).pick(last)
-        self.split('lasts', 'fact').mv('fact').put('heard ! (%s) (λ told-%s.' % (said(r, last), r))
+        self.put('use1 W (some (λ (ws : %s). ‵ (lasts %s.ended %s ws) ⊛ raw (fact 𝓤 (%s)))) (id⊢ 𝓤 _) $' % (call.ends, g, where, call.said(r, 'ws'))).pick(last)
+        self.split('lasts', 'fact').mv('fact').put('heard ! (%s) (λ told-%s.' % (call.said(r, last), r))
         self.c.pop(0)
         return self.mv('alive-own').split('alive', 'own').mv('lasts')

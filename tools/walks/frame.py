@@ -10,9 +10,9 @@ A function is described by a dictionary (walks.json):
                      and a slice's contents on return; {r} for the result
     uses             `use` lines for the words of these clauses"""
 import kit
-from cx import Cx, sub, nest, times
+from cx import Cx, nest, sub, times
+from params import Param, U, at
 
-U = '𝓤 H A W'
 MODEL = '{M : Type 1} (𝓤 : URA M) (H : Heap 𝓤) (A : Atoms 𝓤)'
 RUNS = '(at-mem : Memory → SProp 𝓤) (run : Routine → Fun 𝓤)'
 
@@ -31,143 +31,53 @@ def wrapped(line):
     return out + line
 
 
-def at(i):
-    """Component i of a nested pair."""
-    return ' .1' * i + ' .0'
+LOCALS = '''-- a local's type, as the MIR has it
+abbrev tyOf : List Local → ℕ → Ty
+tyOf [] n = tyBool
+tyOf (local τ h ∷ ls) zero = τ
+tyOf (local τ h ∷ ls) (suc n) = tyOf ls n
 
-
-class Type:
-    """A type that is passed by value."""
-
-    def __init__(self, name, mod, law, spec, proof):
-        self.name, self.mod, self.spec, self.proof = name, mod, spec, proof
-        self.laws = {'enum': 'EL', 'struct': 'LL'}[law]
-        self.row = mod + '.the-row'
-        self.of = '%s.the-type %s′.the-laws' % (mod, mod)
-
-    def val(self, x):
-        return '%s.val %s %s' % (self.laws, self.of, x)
-
-    def typed(self, x, is_):
-        return '(%s.lawful %s 𝓤 H A W%s .typed %s _ %s .0)' % (self.laws, self.of, ' tt' if self.laws == 'EL' else '', x, is_)
-
-    def owned(self, x, is_):
-        return 'owned ! %s (Is %s) (%s.makes %s.the-type %s′.the-plain 𝓤 H A) %s _ %s $' % (self.row, self.row, self.laws, self.mod, self.mod, x, is_)
-
-    def peeks(self, x, w, is_):
-        return 'peeks ! %s (Is %s) (shows 𝓤 H A %s) %s (%s ∷ []) (λ %s.' % (self.row, self.row, self.row, x, w, is_)
-
-    def uses(self, body):
-        return kit.lines('%s: %s' % (self.spec, self.name), body) + kit.lines('%s as %s' % (self.proof, self.mod), body) + kit.lines('%s.Laws as %s′' % (self.proof, self.mod), body)
-
-
-class Param:
-    """A parameter; k is its number, j that of its lifetime."""
-
-    def __init__(self, cfg, k, j, structs, types):
-        self.kind, self.k, self.j, self.i = cfg['kind'], k, j, sub(k)
-        i = self.i
-        self.ka, self.qa = 'κ' + sub(j), 'q' + sub(j)
-        if self.is_struct():
-            s = structs[cfg['struct']]
-            self.s, self.P, self.mod, self.row, self.den = s, s['prefix'], s['mod'], s['mod'] + '.the-row', s['name']
-            self.lent = cfg.get('lent', s['fields'])
-            self.bo, self.val, self.arg, self.type = 'b%s o%s' % (i, i), 'vptr b%s o%s' % (i, i), 'ref' + i, 'RefT ' + s['name']
-            self.full = '%s (named %d) %s %s' % ('MutRef' if self.kind == 'mut' else 'ShrRef', j, self.ka, self.row)
-        elif self.is_slice():
-            self.elt = cfg['elt']
-            self.val, self.arg, self.type = 's' + i, 't' + i, 'RefT (List ℕ)'
-            self.full = '%s (named %d) %s %s' % ('MutSlice' if self.kind == 'mslice' else 'ShrSlice', j, self.ka, self.elt)
-        else:
-            self.t = types[cfg['type']]
-            self.val, self.arg, self.type, self.full = 'v%s-val' % i, 'v' + i, self.t.name, self.t.row
-
-    def is_struct(self):
-        return self.kind in ('shr', 'mut')
-
-    def is_slice(self):
-        return self.kind in ('slice', 'mslice')
-
-    def is_ref(self):
-        return self.kind != 'val'
-
-    def binder(self):
-        i = self.i
-        if self.is_struct():
-            return '(b%s o%s : ℕ) (γ%s : GName) (x%s : %s)' % (i, i, i, i, self.den)
-        if self.is_slice():
-            return '(t%s : RefT (List ℕ)) (room%s : Room %s (length (t%s .now)))' % (i, i, self.elt, i)
-        return '(v%s : %s) (v%s-is : Is %s v%s (%s ∷ []))' % (i, self.type, i, self.t.row, i, self.t.val('v' + i))
-
-    def bound(self):
-        """The same, from what the walk is given: κs, qs, a, are."""
-        a = 'a' + at(self.k)
-        if self.is_struct():
-            return '(%s .ptr .0) (%s .ptr .1) (%s .name) (%s .now)' % (a, a, a, a)
-        if self.is_slice():
-            return '(%s) (are%s .0 .1)' % (a, at(self.k))
-        return '(%s) (are%s)' % (a, at(self.k))
-
-    def own(self):
-        return '(%s) .own %s (%s ∷ [])' % (self.full, self.arg, self.val)
-
-    def fits(self):
-        """That its value is one of its type's."""
-        if self.is_struct():
-            return '(tt, tt)'
-        if self.is_slice():
-            return '(tt, (tt, (record { fits = room%s .0 }, tt)))' % self.i
-        return self.t.typed('v' + self.i, 'v%s-is' % self.i)
-
-    def copies(self):
-        """That what a shared reference owns can be had twice."""
-        if self.is_struct():
-            return 'shr-copy %s (named %d) %s %s .twice ref%s (%s ∷ [])' % (U, self.j, self.ka, self.row, self.i, self.val)
-        return 'shr-slice-copy %s (named %d) %s %s .twice t%s (%s ∷ [])' % (U, self.j, self.ka, self.elt, self.i, self.val)
-
-    def stay(self):
-        j, kind = self.j, self.kind
-        if kind == 'mut':
-            return 'stay-ref (%d ∷ []) tt (plain (λ _. %s))' % (j, self.row)
-        if kind == 'shr':
-            return 'stay-none-ref (%d ∷ []) tt (plain (λ _. %s)) yes' % (j, self.row)
-        if kind == 'slice':
-            return 'stay-none-slice (%d ∷ []) tt (plain (λ _. %s)) yes' % (j, self.elt)
-        if kind == 'mslice':
-            return 'gave-slice (%d ∷ []) tt (plain (λ _. %s))' % (j, self.elt)
-        return 'stay-none (λ _. %s) yes' % self.t.row
-
-    def goes(self, n):
-        j, kind = self.j, self.kind
-        if kind == 'mut':
-            return 'goes-ref %s %d %d tt (plain (λ _. %s))' % (U, n, j, self.row)
-        if kind == 'shr':
-            return 'goes-none-ref %s %d (%d ∷ []) tt (plain (λ _. %s)) yes' % (U, n, j, self.row)
-        if kind == 'slice':
-            return 'goes-none-slice %s %d (%d ∷ []) tt (plain (λ _. %s)) yes' % (U, n, j, self.elt)
-        if kind == 'mslice':
-            return 'goes-gave-slice %s %d %d tt (plain (λ _. %s))' % (U, n, j, self.elt)
-        return 'goes-none %s %d (λ _. %s) yes (λ κs x f. refl)' % (U, n, self.t.row)
-
-    def vals(self):
-        return 'ptr-vals' if self.is_struct() else 'slice-vals' if self.is_slice() else '%s.vals %s' % (self.t.laws, self.t.of)
-
-    def tells(self):
-        if self.kind == 'val':
-            return '%s.tells %s' % (self.t.laws, self.t.of)
-        tells = {'mut': 'mut-tells', 'shr': 'shr-tells', 'slice': 'shr-slice-tells', 'mslice': 'mut-slice-tells'}[self.kind]
-        return '%s (named %d) (κs%s) %s' % (tells, self.j, at(self.j), self.row if self.is_struct() else self.elt)
+abbrev tyAt : ℕ → Ty
+tyAt n = tyOf steps.locals n
+'''
 
 
 class Arg:
-    """An argument of a call: the ghost value and the machine value that the callee's triple binds, its type, the entry of the context that holds what it owns, and
-    the formula of that; its lifetime with a share of it, if it has one; what it is at last: a struct of this type, a slice's contents, or nothing."""
+    """An argument of a call: the ghost value and the machine value that the callee's triple binds, the entry of the context that holds what it owns, and the formula of
+    that; its lifetime, a share of it and the entry that has it, if it has one; what it is at last: a struct of this type, a slice's contents, or nothing."""
 
-    def __init__(self, arg, val, type_, entry, own, life=None, last=None):
-        self.arg, self.val, self.type, self.entry, self.own, self.life, self.last = arg, val, type_, entry, own, life, last
+    def __init__(self, arg, val, entry, own, life=None, last=None):
+        self.arg, self.val, self.entry, self.own, self.life, self.last = arg, val, entry, own, life, last
+
+
+class Call:
+    """A call: of a function with arguments, by operands ops(), where `need` proves what its contract asks, with a result of this type; said(r, last) is what it says."""
+
+    def __init__(self, name, args, need, ops, result, said):
+        self.name, self.args, self.need, self.ops, self.result, self.said = name, args, need, ops, result, said
+        self.lives = [a.life for a in args if a.life]
+        self.lfts, self.bound = nest([k for k, _, _ in self.lives]), nest([a.arg for a in args])
+        self.ghost = '((%s, %s, tt, %s, %s), tt)' % (self.lfts, nest([q for _, q, _ in self.lives]), self.bound, nest(['%s ∷ []' % a.val for a in args]))
+        self.ends = times([{None: 'Unit {0}', 'slice': 'List ℕ'}.get(a.last, a.last) for a in args])
+        self.alive = self.owned = '‵ ftrue'
+        for k, q, _ in reversed(self.lives):
+            self.alive = '(‵ (flft %s %s) ⊛ %s)' % (k, q, self.alive)
+        for a in reversed(args):
+            self.owned = '(‵ (%s) ⊛ %s)' % (a.own, self.owned)
+
+
+class Loan:
+    """A struct that lies at a block, lent whole to a call as its argument j: by `&mut` or by `&`, for the lifetime nu, under the ghost name delta."""
+
+    def __init__(self, s, block, j, name, mutable, nu='ν', delta='δ'):
+        self.s, self.row, self.name, self.mutable, self.nu, self.delta = s, s['mod'] + '.the-row', name, mutable, nu, delta
+        self.at, self.j, self.ptr = ' '.join(block), j, ', '.join(block)
 
 
 class Walk:
+    """The walk of a function. Each kind of walk has BEFORE, laws that do not depend on the model; SAYS, a sentence for the file's head; and body(), its own part of the file."""
+    BEFORE = SAYS = ''
+
     def __init__(self, cfg, structs, types):
         self.cfg, self.structs, self.types = cfg, structs, types
         self.ps, j = [], 0
@@ -192,19 +102,6 @@ class Walk:
         self.e('%sabbrev %s : %s' % (indent, name, type_))
         self.e('%s%s = %s' % (indent, name, value))
         self.e()
-
-    LOCALS = '''-- a local's type, as the MIR has it
-abbrev tyOf : List Local → ℕ → Ty
-tyOf [] n = tyBool
-tyOf (local τ h ∷ ls) zero = τ
-tyOf (local τ h ∷ ls) (suc n) = tyOf ls n
-
-abbrev tyAt : ℕ → Ty
-tyAt n = tyOf steps.locals n
-
-only : (w u : Val) → _≡_ {A = List Val} (w ∷ []) (u ∷ []) → w ≡ u
-only w u e = cc
-'''
 
     # ---- clauses
 
@@ -256,26 +153,24 @@ only w u e = cc
         self.abbrev('at', times(['List Val'] * len(self.ps)), nest(['%s ∷ []' % p.val for p in self.ps]))
         self.abbrev('Post', 'Val → SProp 𝓤', 'walkOf 𝓤 H A f.ended stayed (f.clauses 𝓤 H A at-mem run) .post ' + self.bound)
 
-    def exits(self):
-        """From what is left at the end to the postcondition. The names of what is left are self.left."""
-        left, fml = [], {}
-
-        def item(name, formula):
-            left.append(name)
-            fml[name] = formula
+    def remains(self):
+        """What is left at the end, by name, with the formulas: y is a struct's last value, z a slice's."""
+        out = []
         for p in self.muts:
-            item('obs' + p.i, '‵ (fobs γ%s (%s .coded .code y%s))' % (p.i, p.row, p.i))
-            item('bor' + p.i, '‵ (fbor %s (Body (mem %s) %s γ%s))' % (p.ka, p.row, p.bo, p.i))
-        for p in self.refs:
-            item('tok' + p.i, '‵ (flft %s %s)' % (p.ka, p.qa))
-        item('true', '‵ ftrue')
+            out.append(('obs' + p.i, 'fobs γ%s (%s .coded .code y%s)' % (p.i, p.row, p.i)))
+            out.append(('bor' + p.i, 'fbor %s (Body (mem %s) %s γ%s)' % (p.ka, p.row, p.bo, p.i)))
+        out += [('tok' + p.i, 'flft %s %s' % (p.ka, p.qa)) for p in self.refs] + [('true', 'ftrue')]
         for p in self.ps:
             if p.kind in ('shr', 'slice'):
-                item('own' + p.i, '‵ Own' + p.i)
+                out.append(('own' + p.i, 'Own' + p.i))
             if p.kind == 'mslice':
-                item('own' + p.i, '‵ (finally %s (t%s .name) z%s)' % (p.elt, p.i, p.i))
-        self.left = left
-        ctx = ' ∷ '.join(fml[n] for n in left) + ' ∷ []'
+                out.append(('own' + p.i, 'finally %s (t%s .name) z%s' % (p.elt, p.i, p.i)))
+        return out
+
+    def exits(self):
+        """From what is left at the end, whose names are self.left, to the postcondition."""
+        self.left = [name for name, _ in self.remains()]
+        ctx = ' ∷ '.join('‵ (%s)' % formula for _, formula in self.remains()) + ' ∷ []'
         name = lambda p: ('y' if p.kind == 'mut' else 'z') + p.i
         said = self.on_return(self.entry(self.cfg['said']), 'r', name)
         ends = ''.join(' (%s : %s)' % (name(p), p.den) for p in self.muts) + ''.join(' (%s : List ℕ)' % name(p) for p in self.mslices)
@@ -283,7 +178,7 @@ only w u e = cc
         self.e('  exits : (u : Val) (r : %s)%s → %s → %sIs %s r (u ∷ [])' % (R.name, ends, said, ''.join('length z%s ≡ length (t%s .now) → ' % (p.i, p.i) for p in self.mslices), R.row))
         self.e('      → ent 𝓤 (⋆ 𝓤 H A (%s)) (Post u)' % ctx)
         self.e('  exits u r%s told%s is =' % (''.join(' ' + name(p) for p in self.muts + self.mslices), ''.join(' long' + p.i for p in self.mslices)))
-        c = Cx(left)
+        c = Cx(self.left)
         c.put('qed W (%s) ∵' % ctx).nl()
         lasts = nest([name(p) if p.kind in ('mut', 'mslice') else 'tt' for p in self.ps])
         longs = nest(['long' + p.i if p.kind == 'mslice' else 'tt' for p in self.ps])
@@ -334,25 +229,14 @@ only w u e = cc
         c.put('free0 ! $').nl()
         c.keep(*self.left).put('by ! (%s)' % exits)
 
-    def call(self, c, name, args, need, ops, w, result, r, said):
-        """Calls `name` with args, whose contract asks for `need`: the tokens are the entries LIFETIME's third component. ops() are its operands, said(r, last) is what it says.
-        Afterwards told-r proves that, r-is that w is r's value, and for each argument with a last value `last-r` has it: as an entry res-ENTRY, or fin-ENTRY with long-r."""
-        lives = [a.life for a in args if a.life]
-        lfts, shares = nest([k for k, _, _ in lives]), nest([q for _, q, _ in lives])
-        bound, vals = nest([a.arg for a in args]), nest(['%s ∷ []' % a.val for a in args])
-        ghost = '((%s, %s, tt, %s, %s), tt)' % (lfts, shares, bound, vals)
-        c.nothing('toks').joins([t for _, _, t in lives] + ['toks'], 'toks').nothing('owned').joins([a.entry for a in args] + ['owned'], 'owned').nl()
-        toks = owned = '‵ ftrue'
-        for k, q, _ in reversed(lives):
-            toks = '(‵ (flft %s %s) ⊛ %s)' % (k, q, toks)
-        for a in reversed(args):
-            owned = '(‵ (%s) ⊛ %s)' % (a.own, owned)
-        asks = 'says ! (%s) $ done !' % need if need else 'join ! $ frame ! $ done !'
-        c.mv('toks', 'owned').use(2, 'raw (On-%s 𝓤 H A at-mem run .pre %s)' % (name, ghost), 'qed W (%s ∷ %s ∷ []) ∵ %s' % (toks, owned, asks), 'pre').nl()
-        c.call(name, ghost, ops(), w)
-        ends = times([{None: 'Unit {0}', 'slice': 'List ℕ'}.get(a.last, a.last) for a in args])
-        c.told(name, toks, result.row, result.name, r, w, lfts, bound, ends, 'last-' + r, said)
-        for a in args:
+    def call(self, c, call, r, w):
+        """A call with the result r, whose machine value is w. Afterwards told-r proves what it says, r-is that w is r's value; of an argument with a last value, which
+        is a component of last-r, there is an entry: res-ENTRY, or fin-ENTRY with long-r."""
+        c.nothing('toks').joins([t for _, _, t in call.lives] + ['toks'], 'toks').nothing('owned').joins([a.entry for a in call.args] + ['owned'], 'owned').nl()
+        asks = 'says ! (%s) $ done !' % call.need if call.need else 'join ! $ frame ! $ done !'
+        c.mv('toks', 'owned').use(2, 'raw (On-%s 𝓤 H A at-mem run .pre %s)' % (call.name, call.ghost), 'qed W (%s ∷ %s ∷ []) ∵ %s' % (call.alive, call.owned, asks), 'pre').nl()
+        c.call(call.name, call.ghost, call.ops(), w).told(call, r, w, 'last-' + r)
+        for a in call.args:
             c.mv('lasts').fsplit('x', 'lasts')
             if a.last == 'slice':
                 c.fsplit('fin-' + a.entry, 'eq').mv('eq').put('feqL ! (λ long-%s.' % r)
@@ -361,48 +245,48 @@ only w u e = cc
                 c.c[0] = 'res-' + a.entry
             else:
                 c.drop()
-        c.drop('lasts').nl().mv('own').put(result.peeks(r, w, r + '-is')).drop().mv('alive')
-        for _, _, t in lives:
+        c.drop('lasts').nl().mv('own').put(call.result.peeks(r, w, r + '-is')).drop().mv('alive')
+        for _, _, t in call.lives:
             c.mv('alive').split(t, 'alive')
         return c.drop('alive').nl()
 
-    def lend_struct(self, c, s, x, block, j, nu, name, delta, mutable):
-        """The struct x that lies at a block is lent for a new lifetime nu, and the Arg that it makes is returned. Its entry is mem-NAME, and then lent-NAME."""
-        row = s['mod'] + '.the-row'
-        ref = '%s (named %d) (%s ∷ []) %s .own (record { ptr = (%s); name = δ; now = %s }) (vptr %s ∷ [])' % ('MutRef' if mutable else 'ShrRef', j, nu, row, ', '.join(block), x, ' '.join(block))
-        c.add('lft-new ! tt (λ %s.' % nu, 'tok' + nu).mv('mem-' + name)
-        if mutable:
-            lent, lends = 'Body (mem %s) %s δ' % (row, ' '.join(block)), 'lends-ref %s %s (named %d) (%s ∷ []) %s %s' % (U, row, j, nu, x, ' '.join(block))
+    def lend(self, c, loan, x):
+        """The struct, which is x, is lent; the Arg that it makes is returned. Its entry was mem-NAME, and what the lender keeps is lent-NAME."""
+        row, nu = loan.row, loan.nu
+        ref = '%s (named %d) (%s ∷ []) %s .own (record { ptr = (%s); name = δ; now = %s }) (vptr %s ∷ [])' % ('MutRef' if loan.mutable else 'ShrRef', loan.j, nu, row, loan.ptr, x, loan.at)
+        c.add('lft-new ! tt (λ %s.' % nu, 'tok' + nu).mv('mem-' + loan.name)
+        if loan.mutable:
+            kept, lends = 'Body (mem %s) %s δ' % (row, loan.at), 'lends-ref %s %s (named %d) (%s ∷ []) %s %s' % (U, row, loan.j, nu, x, loan.at)
         else:
-            lent, lends = 'partAt %s fullShare %s %s' % (row, x, ' '.join(block)), 'lends-shr %s %s (named %d) (%s ∷ []) fullShare %s %s' % (U, row, j, nu, x, ' '.join(block))
-        c.use(1, 'later (some (λ (δ : GName). ‵ (%s) ⊛ ‵ (flent (%s ∷ []) (%s))))' % (ref, nu, lent), lends, 'X').wait().pick(delta).split('ref-' + name, 'lent-' + name).nl()
-        own = ref.replace('δ', delta)
-        arg = 'record { ptr = (%s); name = %s; now = %s }' % (', '.join(block), delta, x)
-        return Arg(arg, 'vptr ' + ' '.join(block), 'RefT ' + s['name'], 'ref-' + name, own, ('(%s ∷ [])' % nu, 'fullShare', 'tok' + nu), s['name'] if mutable else None)
+            kept, lends = 'partAt %s fullShare %s %s' % (row, x, loan.at), 'lends-shr %s %s (named %d) (%s ∷ []) fullShare %s %s' % (U, row, loan.j, nu, x, loan.at)
+        c.use(1, 'later (some (λ (δ : GName). ‵ (%s) ⊛ ‵ (flent (%s ∷ []) (%s))))' % (ref, nu, kept), lends, 'X').wait().pick(loan.delta).split('ref-' + loan.name, 'lent-' + loan.name).nl()
+        arg = 'record { ptr = (%s); name = %s; now = %s }' % (loan.ptr, loan.delta, x)
+        life = ('(%s ∷ [])' % nu, 'fullShare', 'tok' + nu)
+        return Arg(arg, 'vptr ' + loan.at, 'ref-' + loan.name, ref.replace('δ', loan.delta), life, loan.s['name'] if loan.mutable else None)
 
-    def take_back(self, c, s, x, block, nu, name, delta, mutable):
-        """nu is ended, and the struct is there again, at x."""
-        row = s['mod'] + '.the-row'
-        c.mv('tok' + nu).put('lft-end ! tt $').rep(1, 'dead')
-        if mutable:
-            c.mv('dead', 'lent-' + name, 'res-ref-' + name).use(3, 'later (‵ (partAt %s fullShare %s %s))' % (row, x, ' '.join(block)), 'ref-back %s %s (%s ∷ []) %s %s %s' % (U, row, nu, delta, x, ' '.join(block)), 'mem-' + name).wait()
+    def take_back(self, c, loan, x):
+        """The lifetime is ended, and the struct is there again, at x."""
+        c.mv('tok' + loan.nu).put('lft-end ! tt $').rep(1, 'dead')
+        if loan.mutable:
+            back = 'ref-back %s %s (%s ∷ []) %s %s %s' % (U, loan.row, loan.nu, loan.delta, x, loan.at)
+            c.mv('dead', 'lent-' + loan.name, 'res-ref-' + loan.name).use(3, 'later (‵ (partAt %s fullShare %s %s))' % (loan.row, x, loan.at), back, 'mem-' + loan.name).wait()
         else:
-            c.mv('dead', 'lent-' + name).put('lent-back ! tt $').rep(2, 'mem-' + name)
+            c.mv('dead', 'lent-' + loan.name).put('lent-back ! tt $').rep(2, 'mem-' + loan.name)
         return c.nl()
 
     def passes(self, c, p):
         """A shared parameter, passed on as it is: what it owns is had twice."""
         c.twice('own' + p.i, 'Own' + p.i, p.copies(), 'for' + p.i).nl()
-        return Arg(p.arg, p.val, p.type, 'for' + p.i, 'Own' + p.i, (p.ka, p.qa, 'tok' + p.i))
+        return Arg(p.arg, p.val, 'for' + p.i, 'Own' + p.i, (p.ka, p.qa, 'tok' + p.i))
 
     def value(self, c, t, x, w, is_, name):
         """A value of an enum or a struct, which owns only facts."""
         c.add(t.owned(x, is_), 'val-' + name)
-        return Arg(x, w, t.name, 'val-' + name, '%s .own %s (%s ∷ [])' % (t.row, x, w))
+        return Arg(x, w, 'val-' + name, '%s .own %s (%s ∷ [])' % (t.row, x, w))
 
     def number(self, c, i, fits):
         c.add('owned ! usize (Is usize) (uint-makes 𝓤 H A W w64) %s _ (refl, %s) $' % (i, fits), 'val-number')
-        return Arg(i, 'vint w64 ' + i, 'ℕ', 'val-number', 'usize .own %s (vint w64 %s ∷ [])' % (i, i))
+        return Arg(i, 'vint w64 ' + i, 'val-number', 'usize .own %s (vint w64 %s ∷ [])' % (i, i))
 
     def walked(self):
         n = len(self.refs)
@@ -438,8 +322,15 @@ only w u e = cc
             self.e('      of-%s = cited 𝓤 H (On-%s 𝓤 H (𝓖 .A) (𝓜 .mem) (𝓡 .run)) 𝓜 𝓡 code.env #%s %s-def.routine code.calls-%s (%s-thm.met 𝓤 H 𝓜 𝓖 𝓡);' % (n, n, n, n, symbol, n))
         self.e('    }))')
 
-    def text(self, comment):
-        """The whole file."""
+    def text(self):
+        """The whole file; body() is what is each kind's own."""
+        self.contracts()
+        self.out += self.BEFORE.split('\n')
+        self.opened()
+        self.exits()
+        self.body()
+        self.walked()
+        comment = '`%s` meets its contract: a walk of its MIR, written by tools/walks. %s' % (self.name, self.SAYS)
         body = '\n'.join(self.out) + '\n'
         mine = 'Rattle.%s.proofs.' % self.crate
         uses = kit.lines(kit.KIT, body)
@@ -447,7 +338,7 @@ only w u e = cc
         uses += kit.lines(here + 'Fields: Names Args Vals args vals Mutables Shareds SharedAt Lasts lasts-apart', body)
         for t in self.types.values():
             uses += t.uses(body)
-        uses += kit.lines(here + 'Parted: mirOf valOf part-shares cell-in cell-out kept lends-parts backs-parts kept-share shares-parts unshares-parts', body)
+        uses += kit.lines(here + 'Parted: valOf part-shares cell-in cell-out kept lends-parts backs-parts kept-share shares-parts unshares-parts', body)
         uses += kit.lines(here + 'Structs: ' + ' '.join(self.structs), body)
         for s in self.structs.values():
             uses += kit.lines('%s: %s' % (s['spec'], s['name']), body) + kit.lines('%s as %s' % (s['proof'], s['mod']), body) + kit.lines('%s.Laws as %s′' % (s['proof'], s['mod']), body)

@@ -5,13 +5,15 @@
         H(&a, .., v, room)
     }
 What such functions share is "owner" in walks.json, what is each one's own, in "owners".
-    owned    the structs in order: their names, what makes them, and what that says ({r})
-    steps    the calls: args are `&a`, `&mut a`, a value by its name, or a parameter by its name; need proves what the call asks, said is what it says, with {a} for a
+    params_named    the parameters' names
+    owned    the structs in order: their names, the call that makes each (by), and what that says ({r})
+    steps    the calls: let is the result's name in the code, type its type, call a name of "calls", comment a line for the walk; args are `&a`, `&mut a`, a value by its name, or a parameter by its name; need proves what the call asks, said is what it says, with {a} for a
              struct before the call, {a+} for it afterwards, {r} for the result, {pK} for parameter K's contents, {z} for the room at last
     room, call, last    the room's elements, and the last call
     gives    proves the function's own promise from all that"""
-from cx import sub, balanced
-from frame import Walk, Arg, Type, at
+from cx import balanced, sub
+from frame import Arg, Call, LOCALS, Loan, Walk
+from params import Type, at
 
 
 def whole(shared, own):
@@ -21,7 +23,15 @@ def whole(shared, own):
                 owned=[dict(o) for o in shared['owned']], steps=[dict(s) for s in shared['steps'] + [own['last']]])
 
 
+def named(arg):
+    """An argument without its `&`."""
+    return arg.replace('&mut ', '').replace('&', '')
+
+
 class Owner(Walk):
+    BEFORE = LOCALS
+    SAYS = 'The program and the machine are locals; they are lent whole, each time for lifetimes of the call, and taken back.'
+
     def __init__(self, cfg, structs, types):
         super().__init__(cfg, structs, types)
         self.of = {o['name']: structs[o['struct']] for o in cfg['owned']}
@@ -47,53 +57,57 @@ class Owner(Walk):
         s = self.of[o['name']]
         t = Type(s['name'], s['mod'], 'struct', s['spec'], s['proof'])
         r, w = 'new-' + o['name'], 'w-' + o['name']
-        self.call(c, o['by'], [], None, lambda: [], w, t, r, lambda r, ws: o['said'].replace('{r}', r))
+        self.call(c, Call(o['by'], [], None, lambda: [], t, lambda r, ws: o['said'].replace('{r}', r)), r, w)
         to, local = o['at'], self.local[o['name']]
         c.put('land ! (from ! (stop !)) (init ! %d refl %s) $' % (c.at('l%d' % to), t.typed(r, r + '-is'))).nl()
         c.put('assigns ! (of-opd ! %s) (from ! (stop !)) (init ! %d refl %s) $' % (c.load('l%d' % to), c.at('l%d' % local), t.typed(r, r + '-is'))).nl()
         c.mv('l%d' % local).use(1, '‵ (partAt %s.the-row fullShare %s l%s 0)' % (s['mod'], r, sub(local)), 'cell-in %s 𝓤 H A W l%s 0 %s %s %s-is' % (s['prefix'], sub(local), r, w, r), 'mem-' + o['name']).nl()
         self.now[o['name']] = r
 
-    def step(self, c, q, s):
-        args, ops, back, self.after = [], [], [], {}
-        self.room = ''
-        for k, (a, to) in enumerate(zip(s['args'], s['at'])):
-            name = a.replace('&mut ', '').replace('&', '')
-            if name in self.of:
+    def addresses(self, c, s):
+        """The locals by which structs and the room are passed."""
+        for a, to in zip(s['args'], s['at']):
+            if named(a) in self.of:
                 c.local('l%d' % to[0])
             elif a.startswith('&mut '):
-                p = self.ps[self.local[name] - 1]
-                c.reslice('l%d' % self.local[name], 'l%d' % to[0], 'l%d' % to[1], p.fits())
-        for k, (a, to) in enumerate(zip(s['args'], s['at'])):
-            name, mutable = a.replace('&mut ', '').replace('&', ''), a.startswith('&mut ')
-            if name in self.of:
-                block, nu, delta = ('l' + sub(self.local[name]), '0'), 'ν%d-%d' % (q, k), 'δ%d-%d' % (q, k)
-                args.append(self.lend_struct(c, self.of[name], self.now[name], block, k, nu, name, delta, mutable))
-                ops.append('l%d' % to[0])
-                if mutable:
-                    self.after[name] = '(%s' + at(k) + ')'
-                back.append((name, block, nu, delta, mutable))
-            elif mutable:
-                p = self.ps[self.local[name] - 1]
-                args.append(Arg(p.arg, p.val, p.type, 'own' + p.i, 'Own' + p.i, (p.ka, p.qa, 'tok' + p.i), 'slice'))
-                ops.append('l%d' % to[1])
-                self.room = '(%s' + at(k) + ')'
-            elif name in self.cfg['params_named']:
-                args.append(self.passes(c, self.ps[self.local[name] - 1]))
-                ops.append('l%d' % self.local[name])
-            else:
-                args.append(self.value(c, self.types['Verdict'], name + '-r', 'w-' + name, name + '-r-is', name))
-                ops.append('l%d' % self.local[name])
-        r, w = s['let'] + '-r', 'w-' + s['let']
-        t = self.types[s['type']]
-        before = dict(self.now)
-        self.call(c, s['call'], args, s['need'] and self.filled(s['need'], before), lambda: [c.load(o) for o in ops], w, t, r, lambda r, ws: self.filled(s['said'], before, r, ws))
-        to = self.local.get(s['let'], 0)
-        c.put('land ! (from ! (stop !)) (init ! %d refl %s) $' % (c.at('l%d' % to), t.typed(r, r + '-is'))).nl()
-        for name, block, nu, delta, mutable in back:
+                p = self.param(a)
+                c.reslice('l%d' % (p.k + 1), 'l%d' % to[0], 'l%d' % to[1], p.fits())
+
+    def param(self, a):
+        return self.ps[self.local[named(a)] - 1]
+
+    def argument(self, c, a, k, q):
+        """Argument k of call q: what it is, where it stands among the locals, and the loan if it is one."""
+        name, mutable = named(a), a.startswith('&mut ')
+        if name in self.of:
+            loan = Loan(self.of[name], ('l' + sub(self.local[name]), '0'), k, name, mutable, 'ν%d-%d' % (q, k), 'δ%d-%d' % (q, k))
             if mutable:
-                self.now[name] = self.after[name] % ('last-' + r)
-            self.take_back(c, self.of[name], self.now[name], block, nu, name, delta, mutable)
+                self.after[name] = '(%s' + at(k) + ')'
+            return self.lend(c, loan, self.now[name]), 0, loan
+        if mutable:
+            p = self.param(a)
+            self.room = '(%s' + at(k) + ')'
+            return Arg(p.arg, p.val, 'own' + p.i, 'Own' + p.i, (p.ka, p.qa, 'tok' + p.i), 'slice'), 1, None
+        if name in self.cfg['params_named']:
+            return self.passes(c, self.param(a)), None, None
+        return self.value(c, self.types['Verdict'], name + '-r', 'w-' + name, name + '-r-is', name), None, None
+
+    def step(self, c, q, s):
+        """Call q. Returns the names of its result and of the result's value."""
+        self.after, self.room, args, places, loans = {}, '', [], [], []
+        self.addresses(c, s)
+        for k, (a, to) in enumerate(zip(s['args'], s['at'])):
+            arg, which, loan = self.argument(c, a, k, q)
+            args.append(arg)
+            places.append('l%d' % (self.local[named(a)] if which is None else to[which]))
+            loans += [loan] if loan else []
+        r, w, t, before = s['let'] + '-r', 'w-' + s['let'], self.types[s['type']], dict(self.now)
+        self.call(c, Call(s['call'], args, self.filled(s['need'], before), lambda: [c.load(l) for l in places], t, lambda r, ws: self.filled(s['said'], before, r, ws)), r, w)
+        c.put('land ! (from ! (stop !)) (init ! %d refl %s) $' % (c.at('l%d' % self.local.get(s['let'], 0)), t.typed(r, r + '-is'))).nl()
+        for loan in loans:
+            if loan.mutable:
+                self.now[loan.name] = self.after[loan.name] % ('last-' + r)
+            self.take_back(c, loan, self.now[loan.name])
         return r, w
 
     def temporaries(self):
@@ -103,10 +117,9 @@ class Owner(Walk):
         for s in self.cfg['steps']:
             s['at'] = []
             for a in s['args']:
-                name = a.replace('&mut ', '').replace('&', '')
-                s['at'].append([self.fresh()] if name in self.of else [self.fresh(), self.fresh()] if a.startswith('&mut ') else [])
+                s['at'].append([self.fresh()] if named(a) in self.of else [self.fresh(), self.fresh()] if a.startswith('&mut ') else [])
 
-    def walk(self):
+    def body(self):
         self.temporaries()
         self.e('  module _ (𝓣 : Tables 𝓤 H) (known : Known 𝓤 H A at-mem run (𝓣 .C)) where')
         self.e('    walk : ent 𝓤 (onEntry 𝓤 H A f.signature %s %s x at) (WpFn 𝓤 H (𝓣 .C) (𝓣 .Λ) code.function (%s) Post)' % (self.kas, self.qas, self.values))
@@ -127,14 +140,3 @@ class Owner(Walk):
         for line in balanced(c.nl().t):
             self.e('        ' + line)
         self.e()
-
-
-def write(cfg, structs, types):
-    w = Owner(cfg, structs, types)
-    w.contracts()
-    w.out += Walk.LOCALS.split('\n')
-    w.opened()
-    w.exits()
-    w.walk()
-    w.walked()
-    return w.text('`%s` meets its contract: a walk of its MIR, written by tools/walks. The program and the machine are locals; they are lent whole, each time for lifetimes of the call, and taken back.' % w.name)

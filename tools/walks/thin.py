@@ -2,8 +2,9 @@
     pub fn F(a: &A, b: &mut B, .., v: V, t: &[u8], room: &mut [u32]) -> R { G(&a.f1, .., &mut b.g1, .., v, t, room) }
 over G<'a>(f1: &'a .., .., g1: &'a mut .., .., v: V, t: &[u8], room: &mut [u32]) -> R. Of a struct behind a `&` some fields may be enough: "lent" has them.
 Where G's contract differs from F's: "asks" proves what G needs, by `need`; "told" is what G says, and "gives" proves what F says, by `told-r`."""
-from cx import Cx, sub, nest, times, balanced
-from frame import Walk, U, at
+from cx import Told, balanced, nest, times
+from frame import Walk
+from params import U, at
 
 
 def all_lent(p):
@@ -39,6 +40,8 @@ def owned(p, rest):
 
 
 class Thin(Walk):
+    SAYS = 'The borrows are opened, the fields are lent for a lifetime ν of the call, and what is lent is put together again.'
+
     def __init__(self, cfg, structs, types):
         super().__init__(cfg, structs, types)
         self.g = self.calls[0][0]
@@ -72,7 +75,7 @@ class Thin(Walk):
         return ''.join(' (γs%s : Names (%s .parts))' % (p.i, p.P) if with_types else ' γs' + p.i for p in self.st if of(p))
 
     def passed(self):
-        """What G's triple binds outside, and what its parameters own."""
+        """What G's triple binds outside, and the last values."""
         self.e('  -- what it binds as last values, and what they make')
         self.abbrev('Ends', 'Type 0', times(self.last_types))
         for p in self.muts:
@@ -94,6 +97,9 @@ class Thin(Walk):
         self.e('  abbrev to-parts : ℕ → %sOn-%s 𝓤 H A at-mem run .Ghost' % (arrows, self.g))
         self.e('  to-parts ν%s = ((%s, %s, tt, passed%s, spelled), tt)' % (self.names(), self.lfts, shares, self.names()))
         self.e()
+
+    def owned_by_parts(self):
+        """What G's parameters own, and that they and the tokens are all that it asks."""
         rest = 'ftrue'
         for p in reversed(self.rest):
             rest = 'fsep Own%s (%s)' % (p.i, rest)
@@ -213,7 +219,9 @@ class Thin(Walk):
                 c.mv('sob' + i, 'mem' + i).put('obor-close ! tt $').rep(2, 'sbor' + i, 'tok' + i).drop()
             c.nl()
 
-    def walk(self):
+    def body(self):
+        self.passed()
+        self.owned_by_parts()
         self.e('  module _ (𝓣 : Tables 𝓤 H) (known : Known 𝓤 H A at-mem run (𝓣 .C)) where')
         self.e('    walk : ent 𝓤 (onEntry 𝓤 H A f.signature %s %s x at) (WpFn 𝓤 H (𝓣 .C) (𝓣 .Λ) code.function (%s) Post)' % (self.kas, self.qas, self.values))
         self.e('    walk =')
@@ -228,7 +236,7 @@ class Thin(Walk):
         ops = ['l%d' % l for p in self.st for l in p.locals] + ['l%d' % (p.locals[1] if p.kind == 'mslice' else p.k + 1) for p in self.rest]
         c.call(self.g, '(to-parts ν%s)' % self.names(), [c.load(o) for o in ops], 'u')
         R = self.result
-        c.told(self.g, self.alive, R.row, R.name, 'r', 'u', self.lfts, '(passed%s)' % self.names(), 'Ends', 'last', self.told)
+        c.told(Told(self.g, self.lfts, '(passed%s)' % self.names(), self.alive, R, 'Ends', self.told), 'r', 'u', 'last')
         c.nl().mv('own').put(R.peeks('r', 'u', 'is')).drop().nl()
         c.put('land ! (from ! (stop !)) (init ! %d refl %s) $' % (c.at('l0'), R.typed('r', 'is'))).nl()
         self.lasts(c)
@@ -238,14 +246,3 @@ class Thin(Walk):
         for line in balanced(c.nl().t):
             self.e('        ' + line)
         self.e()
-
-
-def write(cfg, structs, types):
-    w = Thin(cfg, structs, types)
-    w.contracts()
-    w.opened()
-    w.exits()
-    w.passed()
-    w.walk()
-    w.walked()
-    return w.text('`%s` meets its contract: a walk of its MIR, written by tools/walks. The borrows are opened, the fields are lent to `%s` for a lifetime ν of the call, and what is lent is put together again.' % (w.name, w.g))

@@ -4,7 +4,7 @@
         let mut known = read;
         loop {
             let seen = look(trace, i, known);
-            if !seen.on { break; }
+            if !seen.due { break; }
             let attempt = step_in_place(program, m, seen.e);
             known = verdict_at(i, attempt);
             i += 1;
@@ -12,13 +12,16 @@
         concluded(trace, i, known)
     }
 The machine's borrow is opened before the loop and closed after it. At each turn the machine is lent whole, for a lifetime that is made for the step."""
-from cx import Cx, sub, balanced
-from frame import Walk, Arg
+from cx import Cx, balanced, sub
+from frame import Call, LOCALS, Loan, Walk
 
 # local 0 is the result, 1 to 4 the parameters
-I, KNOWN, SEEN, ATTEMPT, TEST, MACHINE, LOCALS = 5, 6, 7, 8, 9, 10, 11
+I, KNOWN, SEEN, ATTEMPT, TEST, MACHINE, ALL = 5, 6, 7, 8, 9, 10, 11
 
-LAWS = '''fails : (t : Bool) → Holds (not t) → t ≡ false
+LAWS = '''only : (w u : Val) → _≡_ {A = List Val} (w ∷ []) (u ∷ []) → w ≡ u
+only w u e = cc
+
+fails : (t : Bool) → Holds (not t) → t ≡ false
 fails true h = absurd h
 fails false h = refl
 
@@ -66,23 +69,35 @@ TURNS = '''    turns : (left : ℕ) → ent 𝓤 (Inv left) (Wp 𝓤 H (𝓣 .C)
 
 
 class Turns(Walk):
+    BEFORE = LOCALS + '\n' + LAWS
+    SAYS = "The machine's borrow is opened before the loop and closed after it; at each turn the machine is lent whole, for a lifetime that is made for the step."
+
+    def body(self):
+        self.state()
+        self.places()
+        self.turn()
+        self.walk()
+
     def state(self):
-        """What holds between two turns, and where everything lies then."""
-        p0, p1, p2, p3 = self.ps
-        V = p2.t
+        """What holds between two turns."""
+        V = self.ps[2].t
         self.abbrev('n', 'ℕ', 'length (t₃ .now) / 8')
         self.e('  -- ---- the loop: so many records are stepped, the machine, the verdict so far, and its value')
         self.abbrev('Turn', 'Type 0', 'ℕ × (Machine × (Verdict × Val))')
         self.e('  abbrev Then : ℕ → Turn → Type 0')
-        self.e('  Then left z = (n - z .0 ≡ left) × (z .0 < 2 ^ 64) × Is %s (z .1 .1 .0) (z .1 .1 .1 ∷ []) × Stepped (columnsOf x₀) (stateOf x₁) v₂ (t₃ .now) (stateOf (z .1 .0)) (z .0) (z .1 .1 .0)' % V.row)
+        self.e('  Then left z = (n - z .0 ≡ left) × (z .0 < 2 ^ 64) × Is %s (z .1 .1 .0) (z .1 .1 .1 ∷ []) × FollowsUpTo (columnsOf x₀) (stateOf x₁) v₂ (t₃ .now) (stateOf (z .1 .0)) (z .0) (z .1 .1 .0)' % V.row)
         self.e()
         self.abbrev('begin', 'Turn', '(0, (x₁, (v₂, v₂-val)))')
         self.e('  begin-is : Then n begin')
         self.e('  begin-is = (let z : n - 0 ≡ n = omega arith in z, lit< tt, v₂-is, begun (columnsOf x₀) (stateOf x₁) v₂ (t₃ .now) need)')
         self.e()
-        ls = ' '.join('l' + sub(i) for i in range(LOCALS))
+
+    def places(self):
+        """Where everything lies then."""
+        p0, p1, _, p3 = self.ps
+        ls = ' '.join('l' + sub(i) for i in range(ALL))
         self.e('  module _ (𝓣 : Tables 𝓤 H) (known : Known 𝓤 H A at-mem run (𝓣 .C)) (%s : ℕ) where' % ls)
-        self.abbrev('En', 'Env 𝓤 H', ' ∷ '.join('(tyAt %d, l%s)' % (i, sub(i)) for i in range(LOCALS)) + ' ∷ []', '    ')
+        self.abbrev('En', 'Env 𝓤 H', ' ∷ '.join('(tyAt %d, l%s)' % (i, sub(i)) for i in range(ALL)) + ' ∷ []', '    ')
         self.items, fml = [], []
 
         def item(name, formula):
@@ -99,9 +114,9 @@ class Turns(Walk):
         item('tok₃', 'flft %s %s' % (p3.ka, p3.qa))
         item('true', 'ftrue')
         held = {1: 'vptr b₀ o₀', 2: 'vptr b₁ o₁', 3: 'v₂-val', 4: 's₃', I: 'vint w64 (z .0)', KNOWN: 'z .1 .1 .1'}
-        for i in range(LOCALS):
+        for i in range(ALL):
             item('l%d' % i, 'fat fullShare (tyAt %d) l%s 0 (%s)' % (i, sub(i), held[i]) if i in held else 'froom (tyAt %d) l%s 0' % (i, sub(i)))
-        for i in range(LOCALS):
+        for i in range(ALL):
             item('d%d' % i, 'fdies (tyAt %d) l%s' % (i, sub(i)))
         self.e('    abbrev At : Turn → List (Item 𝓤)')
         self.e('    At z = ' + ' ∷ '.join(fml) + ' ∷ []')
@@ -109,15 +124,15 @@ class Turns(Walk):
         self.out += LOOP.split('\n')
 
     def turn(self):
-        p0, p1, p2, p3 = self.ps
-        V, A, E, S = p2.t, self.types['Attempt'], self.types['Record'], self.types['Seen']
+        p2, p3 = self.ps[2:]
+        V, S = p2.t, self.types['Seen']
         self.e('    turn : (left i : ℕ) (m : Machine) (v : Verdict) (w : Val) → Then left (i, (m, (v, w))) → ent 𝓤 (⋆ 𝓤 H A (At (i, (m, (v, w))))) (Wp 𝓤 H (𝓣 .C) (𝓣 .Λ) En steps.turn-1 (afterTurn 𝓤 H (Below left) Left))')
         self.e('    unfolding afterTurn')
         self.e('    turn left i m v w is =')
         c = Cx(self.items)
         c.put('qed W (At (i, (m, (v, w)))) ∵ exec ! (𝓣 .C) (𝓣 .Λ) En steps.turn-1 (anyQ (afterTurn 𝓤 H (Below left) Left)) $').nl('is there a record to be stepped?')
         args = [self.passes(c, p3), self.number(c, 'i', 'is .1'), self.value(c, V, 'v', 'w', '(is .2)', 'known')]
-        self.call(c, 'look', args, None, lambda: [c.load('l4'), c.load('l%d' % I), c.load('l%d' % KNOWN)], 'w₁', S, 'z', lambda r, ws: 'Looks (t₃ .now) i v (%s .on) (%s .e)' % (r, r))
+        self.call(c, Call('look', args, None, lambda: [c.load('l4'), c.load('l%d' % I), c.load('l%d' % KNOWN)], S, lambda r, ws: 'Looks (t₃ .now) i v (%s .due) (%s .e)' % (r, r)), 'z', 'w₁')
         seen = c.at('l%d' % SEEN)
         c.put('land ! (from ! (stop !)) (init ! %d refl %s) $' % (seen, S.typed('z', 'z-is'))).nl()
         c.put('rewrite ! %d (λ (u : Val). ‵ (fat fullShare (tyAt %d) l%s 0 u)) (settled z w₁ z-is) refl $' % (seen, SEEN, sub(SEEN))).nl()
@@ -132,65 +147,53 @@ class Turns(Walk):
 
     def steps(self, c):
         """A record is stepped."""
-        p0, p1, p2, p3 = self.ps
+        p0, p1, p2, _ = self.ps
         V, A, E = p2.t, self.types['Attempt'], self.types['Record']
-        block = ('b₁', 'o₁')
-        c.nl('a record is stepped').put('(λ on-is. let on = twice (z .on) on-is in').nl()
+        loan = Loan(p1.s, ('b₁', 'o₁'), 1, 'm', True)
+        c.nl('a record is stepped').put('(λ on-is. let on = twice (z .due) on-is in').nl()
         c.whole('l2', 'l%d' % MACHINE)
-        args = [self.passes(c, p0), self.lend_struct(c, p1.s, 'm', block, 1, 'ν', 'm', 'δ', True),
+        args = [self.passes(c, p0), self.lend(c, loan, 'm'),
                 self.value(c, E, '(z .e)', '(%s)' % E.val('(z .e)'), '(LL.owed S.the-type S′.the-laws z _ z-is .1 .0)', 'e')]
         e = lambda: '(load ! (from ! (fld ! refl (stop !))) (look-in ! %d (sub ! 1 refl (whole !))))' % c.at('l%d' % SEEN)
         ready = '(is .3 .ready, subst (Proper stepUses) (sym (told-z .is on)) (proper (t₃ .now) i v (told-z .next on)))'
         ops = lambda: [c.load('l1'), c.load('l%d' % MACHINE), e()]
-        self.call(c, 'step', args, ready, ops, 'w₂', A, 'tried', lambda r, ws: 'Steps (columnsOf x₀) (stateOf m) (z .e) %s (stateOf (%s .1 .0))' % (r, ws))
+        self.call(c, Call('step', args, ready, ops, A, lambda r, ws: 'Steps (columnsOf x₀) (stateOf m) (z .e) %s (stateOf (%s .1 .0))' % (r, ws)), 'tried', 'w₂')
         c.put('land ! (from ! (stop !)) (init ! %d refl %s) $' % (c.at('l%d' % ATTEMPT), A.typed('tried', 'tried-is'))).nl()
         m = '(last-tried .1 .0)'
-        self.take_back(c, p1.s, m, block, 'ν', 'm', 'δ', True)
+        self.take_back(c, loan, m)
         args = [self.number(c, 'i', 'is .1'), self.value(c, A, 'tried', 'w₂', 'tried-is', 'attempt')]
-        self.call(c, 'verdict-at', args, None, lambda: [c.load('l%d' % I), c.load('l%d' % ATTEMPT)], 'w₃', V, 'u', lambda r, ws: '%s ≡ verdictAt i tried' % r)
+        self.call(c, Call('verdict-at', args, None, lambda: [c.load('l%d' % I), c.load('l%d' % ATTEMPT)], V, lambda r, ws: '%s ≡ verdictAt i tried' % r), 'u', 'w₃')
         c.put('land ! (from ! (stop !)) (store ! %d refl %s) $' % (c.at('l%d' % KNOWN), V.typed('u', 'u-is'))).nl()
         fits = 'record { fits = told-z .fits on }'
         c.put('assigns-last ! (bin ! %s (lit ! tt) (%s)) (from ! (stop !)) (store ! %d refl (tt, %s)) $' % (c.load('l%d' % I), fits, c.at('l%d' % I), fits)).nl()
         for i in (SEEN, ATTEMPT, TEST, MACHINE):
             c.put('forget ! %d refl $' % c.at('l%d' % i))
-        stepped = 'turned (columnsOf x₀) (stateOf x₁) v₂ (t₃ .now) (stateOf m) i v (is .3) (told-z .next on) tried (stateOf %s) (subst (λ (e : Record). Steps (columnsOf x₀) (stateOf m) e tried (stateOf %s)) (told-z .is on) told-tried) u told-u' % (m, m)
+        stepped = 'stepped-on (columnsOf x₀) (stateOf x₁) v₂ (t₃ .now) (stateOf m) i v (is .3) (told-z .next on) tried (stateOf %s) (subst (λ (e : Record). Steps (columnsOf x₀) (stateOf m) e tried (stateOf %s)) (told-z .is on) told-tried) u told-u' % (m, m)
         c.nl().keep(*self.items).nl()
         return c.put('by ! (below left (n - (i + 1)) (i + 1, (%s, (u, w₃))) (refl, told-z .fits on, u-is, %s) (fewer left i (is .0) (told-z .next on .inside)))' % (m, stepped))
 
     def concludes(self, c):
         """There is none: the verdict."""
-        p0, p1, p2, p3 = self.ps
+        _, p1, p2, p3 = self.ps
         V = p2.t
         c.nl('there is none: the verdict').put('(λ on-is. exec ! (𝓣 .C) (𝓣 .Λ) En steps.t-4 (atRet En Post) $').nl()
         args = [self.passes(c, p3), self.number(c, 'i', 'is .1'), self.value(c, V, 'v', 'w', '(is .2)', 'known')]
-        self.call(c, 'concluded', args, 'told-z .none (fails (z .on) on-is)', lambda: [c.load('l4'), c.load('l%d' % I), c.load('l%d' % KNOWN)], 'w₄', V, 'end', lambda r, ws: 'Concludes (t₃ .now) i v %s' % r)
+        ops = lambda: [c.load('l4'), c.load('l%d' % I), c.load('l%d' % KNOWN)]
+        self.call(c, Call('concluded', args, 'told-z .none (fails (z .due) on-is)', ops, V, lambda r, ws: 'Concludes (t₃ .now) i v %s' % r), 'end', 'w₄')
         c.put('land ! (from ! (stop !)) (init ! %d refl %s) $' % (c.at('l0'), V.typed('end', 'end-is'))).nl('the borrow is closed')
         c.mv('mem-m', 'obor', 'obs', 'auth').put('close-ref ! tt (mem %s) m {b = b₁} {o = o₁} $' % p1.row).rep(4, 'obs₁', 'bor₁', 'tok₁').nl()
-        self.ends(c, LOCALS, [0, 1, 2, 3, 4, I, KNOWN, SEEN, TEST], 'exits w₄ end m (told-end (columnsOf x₀) (stateOf x₁) (stateOf m) v₂ (is .3)) end-is')
+        self.ends(c, ALL, [0, 1, 2, 3, 4, I, KNOWN, SEEN, TEST], 'exits w₄ end m (told-end (columnsOf x₀) (stateOf x₁) (stateOf m) v₂ (is .3)) end-is')
         return c
 
     def walk(self):
         p1 = self.ps[1]
         self.e('  walk : (𝓣 : Tables 𝓤 H) → Known 𝓤 H A at-mem run (𝓣 .C) → ent 𝓤 (onEntry 𝓤 H A f.signature %s %s x at) (WpFn 𝓤 H (𝓣 .C) (𝓣 .Λ) code.function (%s) Post)' % (self.kas, self.qas, self.values))
         self.e('  walk 𝓣 known =')
-        c = self.begins(LOCALS)
+        c = self.begins(ALL)
         c.put('assigns ! (of-opd ! (lit ! tt)) (from ! (stop !)) (init ! %d refl (tt, record { fits = lit< tt })) $' % c.at('l%d' % I)).nl()
         c.put('assigns ! (of-opd ! %s) (from ! (stop !)) (init ! %d refl %s) $' % (c.load('l3'), c.at('l%d' % KNOWN), self.ps[2].fits())).nl('the borrow is opened')
         c.mv('own₁').fsplit3('a', 'obs', 'bor').drop().mv('obs', 'bor', 'tok₁').put('open-ref ! tt (mem %s) {x = x₁} {b = b₁} {o = o₁} $' % p1.row).rep(3, 'mem-m', 'obor', 'obs', 'auth').nl()
-        c.keep(*self.items).put('first ! $ blocks ! $ turns-all 𝓣 known ' + ' '.join('l' + sub(i) for i in range(LOCALS)))
+        c.keep(*self.items).put('first ! $ blocks ! $ turns-all 𝓣 known ' + ' '.join('l' + sub(i) for i in range(ALL)))
         for line in balanced(c.nl().t):
             self.e('      ' + line)
         self.e()
-
-
-def write(cfg, structs, types):
-    w = Turns(cfg, structs, types)
-    w.contracts()
-    w.out += (Walk.LOCALS + '\n' + LAWS).split('\n')
-    w.opened()
-    w.exits()
-    w.state()
-    w.turn()
-    w.walk()
-    w.walked()
-    return w.text('`%s` meets its contract: a walk of its MIR, with its loop, written by tools/walks. The machine\'s borrow is opened before the loop and closed after it; at each turn the machine is lent whole, for a lifetime that is made for the step.' % w.name)

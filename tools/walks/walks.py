@@ -6,10 +6,10 @@ import json
 import os
 import sys
 sys.dont_write_bytecode = True
-import owner
-import thin
-import turns
-from frame import Type
+from owner import Owner, whole
+from params import Type
+from thin import Thin
+from turns import Turns
 
 HERE = os.path.dirname(os.path.abspath(__file__))
 
@@ -19,13 +19,13 @@ def main(root):
         cfg = json.load(f)
     types = {name: Type(name, **t) for name, t in cfg['types'].items()}
     structs = {s['prefix']: s for s in cfg['structs']}
-    owners = [owner.whole(cfg['owner'], w) for w in cfg['owners']]
-    for tool, walks in ((thin, cfg['thin']), (turns, cfg['turns']), (owner, owners)):
+    owners = [whole(cfg['owner'], w) for w in cfg['owners']]
+    for kind, walks in ((Thin, cfg['thin']), (Turns, cfg['turns']), (Owner, owners)):
         for walk in walks:
             path = 'crates/%s/proofs/%s/Proof.antt' % (walk['crate'], walk['path'])
             os.makedirs(os.path.dirname(os.path.join(root, path)), exist_ok=True)
             with open(os.path.join(root, path), 'w') as f:
-                f.write(tool.write(walk, structs, types))
+                f.write(kind(walk, structs, types).text())
             print(path)
 
 

@@ -6,7 +6,10 @@ use Rattle.model.specs.declared.answer.Verdict.{Verdict}
 use Rattle.model.specs.declared.answer.Verdict.the-variants.{Passed}
 use Rattle.model.specs.Record.{records}
 use Rattle.model.specs.Machine as model
-use Rattle.model.specs.Tests.{Tested, andThen}
+use Rattle.model.specs.Kinds.{Entry}
+use Rattle.model.specs.Table.{start}
+use Rattle.model.specs.Tests.{Tested, passed, refused, andThen}
+use Rattle.model.specs.Reading.{reading}
 use Rattle.model.specs.Reply.{Reply}
 use Rattle.model.specs.Calls.{following, tried, replied, checkedAt, checked, completedAt, completed}
 use Rattle.model.specs.Code.{Columns, testedOf}
@@ -14,15 +17,22 @@ use Rattle.model.proofs.Runs.{reached-orderly}
 use Rattle.model.proofs.Numbers.{tried-follows}
 use Rattle.machine_state.specs.State.{State}
 use Rattle.machine.specs.View.{machineOf}
-use Rattle.table.proofs.Told.{read-then}
 use Rattle.finish_step.specs.Finishing.{Underway}
 use Rattle.trace.specs.Follows.{Follows}
 use Rattle.checker_read.specs.Begins.{Begins}
 
+-- going on from where the entries start
+from-start : (t : Tested (List Entry)) (f : model.Machine → Tested model.Machine) → andThen (andThen t (λ entries. passed (start entries))) f ≡ andThen t (λ entries. f (start entries))
+unfolding andThen
+from-start (passed entries) f = refl
+from-start (refused n i) f = refl
+
 module _ (table trace : List ℕ) (read : Verdict) (g : Columns) (s : State) (begins : Begins table read g s) (end : Verdict) (m : State) (follows : Follows g s read trace end m) where
   leads : testedOf end (machineOf g m) ≡ tried table trace
   unfolding tried
-  leads = follows .says ∙ sym (read-then table read (machineOf g s) (λ a. following a trace) (begins .says))
+  leads =
+      follows .says ∙ ap (λ (t : Tested model.Machine). andThen t (λ a. following a trace)) (begins .says)
+      ∙ from-start (reading table) (λ a. following a trace)
 
   module _ (room : List ℕ) (r : Reply) where
     replies : (f : model.Machine → Reply) → r ≡ replied room (testedOf end (machineOf g m)) f → r ≡ replied room (tried table trace) f

@@ -3,7 +3,7 @@ ghost use mathlib.Core.Path.{_≡_};
 ghost use Rattle.model.specs.Calls.{completed};
 ghost use Rattle.model.specs.Reply.{replyOf};
 use crate::start;
-use finish_run::finish as rest;
+use finish_run::reply;
 use model::answer::Answer;
 use trace::follow;
 
@@ -15,5 +15,5 @@ pub fn finish(table: &[u8], trace: &[u8], room: &mut [u8]) -> Answer
     let mut m = start::at_start();
     let read = checker_read::read_in_place(&mut program, &mut m, table);
     let end = follow::follow_in_place(&program, &mut m, read, trace);
-    rest::finish_in_place(&program, &mut m, end, room)
+    reply::finish_in_place(&program, &mut m, end, room)
 }

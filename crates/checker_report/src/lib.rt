@@ -1,3 +1,3 @@
-// The result of a check, written into the lent room.
+// The reply to a check: a refusal, or the result, written into the lent room.
 pub mod reply;
 mod report;

@@ -17,7 +17,7 @@ use model::answer::Verdict;
 use model::record::Record;
 use model::table::Program;
 
-// The answer to a trace with this verdict, which leads to this state if it passed.
+// What `reply_in_place` does, on the arrays.
 fn reply_parts<'a>(
     codes: &'a [u8; Program::CODES],
     marks: &'a [usize; Machine::MARKS],
@@ -36,7 +36,7 @@ fn reply_parts<'a>(
     }
 }
 
-// The answer to a trace with this verdict, which leads to this machine if it passed.
+// The answer to a check whose trace has this verdict, and leads to this machine if it passed.
 pub fn reply_in_place(
     program: &Program,
     m: &Machine,

@@ -1,3 +1,3 @@
-// Finishing a run: the steps that complete it.
+// The reply to a finish, and the steps that complete a run.
 mod complete;
-pub mod finish;
+pub mod reply;

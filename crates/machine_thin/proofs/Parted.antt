@@ -42,7 +42,7 @@ module _ (S : Parted) where
   abbrev R : RattleType
   R = row (S .type)
 
-  abbrev pub mirOf : Ty
+  abbrev mirOf : Ty
   mirOf = layout (shape (S .type))
 
   abbrev pub valOf : D → Val

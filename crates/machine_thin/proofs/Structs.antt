@@ -3,7 +3,7 @@ use mathlib.Core.Path.{_≡_, ap}
 use Prim.Native.Nat.{ℕ}
 use mathlib.Core.List.{[], _∷_, List, map-id}
 use mir.Syntax.{w8, w32, w64, tyInt, tyArray}
-use base.Fml.{Share, Fml}
+use base.Fml.{Share}
 use denote.RattleType.{Denots}
 use denote.Array.{Array}
 use denote.Builtin.{u8, u32, usize}

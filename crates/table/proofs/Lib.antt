@@ -4,4 +4,3 @@ pub mod Fitting
 pub mod More
 pub mod Holding
 pub mod Turns
-pub mod Told

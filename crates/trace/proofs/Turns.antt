@@ -22,6 +22,7 @@ use Rattle.model.specs.Reply.{numberOf}
 use Rattle.model.specs.Calls.{stepTests, atPlace, takeRecord, following}
 use Rattle.model.specs.Code.{Columns, testedOf, Gives, steppedOf}
 use Rattle.model.proofs.Fields.{or-left, or-right, known-test, range-test, zero-test}
+use Rattle.model.proofs.Bools.{false-true}
 use Rattle.model.proofs.InOrder.{in-order-more, in-order-stop, file-whole, file-not-whole}
 use Rattle.model.proofs.Tests.{passed-refused}
 use Rattle.model.proofs.Verdicts.{gives-none, gives-then}
@@ -29,10 +30,7 @@ use Rattle.machine.specs.View.{machineOf}
 use Rattle.machine.specs.Ready.{Ready, Steps}
 use Rattle.machine_state.specs.State.{State}
 use Rattle.trace.specs.Follows.{Follows}
-use Rattle.trace.specs.Turns.{verdictAt, Next, Looks, Stepped, Concludes}
-
-off-on : {B : Type 0} → false ≡ true → B
-off-on {B} e = let z : _≡_ {A = ℕ} 0 1 = cc in absurd (omega arith)
+use Rattle.trace.specs.Turns.{verdictAt, Due, Looks, FollowsUpTo, Concludes}
 
 differ : {B : Type 0} {why : Refusal} {place : ℕ} → Refused why place ≡ Passed → B
 differ {B} {why} {place} e = let z : _≡_ {A = ℕ} 0 1 = cc in absurd (omega arith)
@@ -41,10 +39,10 @@ differ {B} {why} {place} e = let z : _≡_ {A = ℕ} 0 1 = cc in absurd (omega a
 
 module _ (trace : List ℕ) (i : ℕ) (v : Verdict) where
   abbrev Nothing : Type 0
-  Nothing = (on : Bool) (e : Record) → on ≡ false → Looks trace i v on e
+  Nothing = (due : Bool) (e : Record) → due ≡ false → Looks trace i v due e
 
-  no : ¬ Next trace i v → Nothing
-  no n on e f = record { next = λ y. off-on (sym f ∙ y); fits = λ y. off-on (sym f ∙ y); is = λ y. off-on (sym f ∙ y); none = λ _. n }
+  no : ¬ Due trace i v → Nothing
+  no n due e f = record { next = λ y. false-true (sym f ∙ y); fits = λ y. false-true (sym f ∙ y); is = λ y. false-true (sym f ∙ y); none = λ _. n }
 
   pub not-going : (why : Refusal) (place : ℕ) → v ≡ Refused why place → Nothing
   not-going why place p = no (λ n. differ (sym p ∙ n .going))
@@ -61,11 +59,11 @@ module _ (trace : List ℕ) (i : ℕ) (v : Verdict) where
     misreads why place p = no (λ n. passed-refused (n .passes .says ∙ sym (rw (p, read) at given .says)))
 
     pub reads : v ≡ Passed → length trace % 8 ≡ 0 → i < length trace / 8 → w ≡ Passed → length trace < 2 ^ 64 → Looks trace i v true e
-    reads p o l q short = record { next = λ _. record { going = p; whole = o; inside = l; passes = rw (q, read) at given }; fits = λ _. omega arith; is = λ _. read; none = λ f. off-on (sym f) }
+    reads p o l q short = record { next = λ _. record { going = p; whole = o; inside = l; passes = rw (q, read) at given }; fits = λ _. omega arith; is = λ _. read; none = λ f. false-true (sym f) }
 
 -- ---- record i is stepped, or its fields are refused
 
-module _ (trace : List ℕ) (i : ℕ) (v : Verdict) (n : Next trace i v) where
+module _ (trace : List ℕ) (i : ℕ) (v : Verdict) (n : Due trace i v) where
   pub proper : Proper stepUses (recordAt trace i)
   unfolding stepTests
   proper =
@@ -97,7 +95,7 @@ module _ (g : Columns) (s : State) (before : Verdict) (trace : List ℕ) where
   unfolding andThen
   follows p w m e r = record { says = rw p e; ready = r }
 
-  pub begun : Ready g s → Stepped g s before trace s 0 before
+  pub begun : Ready g s → FollowsUpTo g s before trace s 0 before
   unfolding following records andThen
   begun r = record {
     ready = r;
@@ -106,7 +104,7 @@ module _ (g : Columns) (s : State) (before : Verdict) (trace : List ℕ) where
     stopped = λ why place p. record { says = rw p; ready = r };
   }
 
-  module _ (m : State) (i : ℕ) (v : Verdict) (t : Stepped g s before trace m i v) where
+  module _ (m : State) (i : ℕ) (v : Verdict) (t : FollowsUpTo g s before trace m i v) where
     -- record i, where there is one, and what it gives
     module _ (p : v ≡ Passed) (o : length trace % 8 ≡ 0) (l : i < length trace / 8) where
       left : inOrder takeRecord i (machineOf g m) (recordAt trace i ∷ recordsFrom trace (suc i) (length trace / 8 - suc i)) ≡ following (machineOf g s) trace
@@ -116,8 +114,8 @@ module _ (g : Columns) (s : State) (before : Verdict) (trace : List ℕ) where
       stops : (why : Refusal) (place : ℕ) (m′ : State) → takeRecord i (machineOf g m) (recordAt trace i) ≡ refused (numberOf why) place → Ready g m′ → Follows g s before trace (Refused why place) m′
       stops why place m′ e = follows (t .going p) (Refused why place) m′ (sym (in-order-stop takeRecord i (machineOf g m) _ _ (numberOf why) place e) ∙ left)
 
-    pub turned : Next trace i v → (r : Attempt) (n : State) → Steps g m (recordAt trace i) r n → (w : Verdict) → w ≡ verdictAt i r → Stepped g s before trace n (i + 1) w
-    turned x r n d w q = record {
+    pub stepped-on : Due trace i v → (r : Attempt) (n : State) → Steps g m (recordAt trace i) r n → (w : Verdict) → w ≡ verdictAt i r → FollowsUpTo g s before trace n (i + 1) w
+    stepped-on x r n d w q = record {
       ready = d .ready;
       going = λ _. t .going (x .going);
       rest = λ p _. rw add-one (sym (in-order-more takeRecord i (machineOf g m) (machineOf g n) _ _ (rw p at gave)) ∙ left (x .going) (x .whole) (x .inside));
@@ -140,7 +138,7 @@ module _ (trace : List ℕ) (i : ℕ) (v : Verdict) where
       let z : length trace / 8 - i ≡ 0 = omega arith in
       follows g s before trace (t .going p) Passed m (rw z at (t .rest p o)) (t .ready)
 
-  pub refuses : ¬ Next trace i v → v ≡ Passed → length trace % 8 ≡ 0 → i < length trace / 8 → (e : Record) → e ≡ recordAt trace i → (w : Verdict) → Gives w (stepTests e) i → Concludes trace i v w
+  pub refuses : ¬ Due trace i v → v ≡ Passed → length trace % 8 ≡ 0 → i < length trace / 8 → (e : Record) → e ≡ recordAt trace i → (w : Verdict) → Gives w (stepTests e) i → Concludes trace i v w
   refuses n p o l e read w given = go w (rw read at given)
     where
       go : (w : Verdict) → Gives w (stepTests (recordAt trace i)) i → Concludes trace i v w

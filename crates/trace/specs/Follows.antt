@@ -1,4 +1,4 @@
--- What following a trace promises, where g has the programs: from the verdict before it, and the state m, to the verdict v and the state n.
+-- What following a trace promises, where g has the programs: from the verdict before it, and the state s, to the verdict v and the state m.
 use mathlib.Core.Path.{_≡_}
 use mathlib.Core.List.{List}
 use Prim.Native.Nat.{ℕ}
@@ -10,6 +10,6 @@ use Rattle.machine.specs.View.{machineOf}
 use Rattle.machine.specs.Ready.{Ready}
 use Rattle.machine_state.specs.State.{State}
 
-pub record Follows (g : Columns) (m : State) (before : Verdict) (trace : List ℕ) (v : Verdict) (n : State) : Type 0 where
-  pub says : testedOf v (machineOf g n) ≡ andThen (testedOf before (machineOf g m)) (λ s. following s trace)
-  pub ready : Ready g n
+pub record Follows (g : Columns) (s : State) (before : Verdict) (trace : List ℕ) (v : Verdict) (m : State) : Type 0 where
+  pub says : testedOf v (machineOf g m) ≡ andThen (testedOf before (machineOf g s)) (λ a. following a trace)
+  pub ready : Ready g m

@@ -17,7 +17,7 @@ pub fn follow_in_place(program: &Program, m: &mut Machine, read: Verdict, trace:
     let mut known = read;
     loop {
         let seen = look::look(trace, i, known);
-        if !seen.on {
+        if !seen.due {
             break;
         }
         let attempt = in_place::step_in_place(program, m, seen.e);

@@ -1,7 +1,7 @@
 // What the loop over a trace decides: which record is stepped next, and the verdict.
 ghost use mathlib.Core.Path.{_≡_};
 ghost use mathlib.Core.Bool.{false};
-ghost use Rattle.trace.specs.Turns.{verdictAt, Next, Looks, Concludes};
+ghost use Rattle.trace.specs.Turns.{verdictAt, Due, Looks, Concludes};
 use crate::event;
 use model::answer::Attempt;
 use model::answer::Refusal;
@@ -11,15 +11,15 @@ use record::bytes;
 
 // A record that is to be stepped, or none.
 pub struct Seen {
-    pub on: bool,
+    pub due: bool,
     pub e: Record,
 }
 
 fn none() -> Seen
-    ensures { λ s. ⌜ s .on ≡ false ⌝ }
+    ensures { λ s. ⌜ s .due ≡ false ⌝ }
 {
     Seen {
-        on: false,
+        due: false,
         e: Record {
             kind: 0,
             processor: 0,
@@ -32,7 +32,7 @@ fn none() -> Seen
 
 // Record i is stepped if nothing is refused so far, the trace is of whole records, there is one, and its fields pass the tests 9, 10.
 pub fn look(trace: &[u8], i: usize, known: Verdict) -> Seen
-    ensures { λ s. ⌜ Looks (now (trace .entry)) i known (s .on) (s .e) ⌝ }
+    ensures { λ s. ⌜ Looks (now (trace .entry)) i known (s .due) (s .e) ⌝ }
 {
     match known {
         Verdict::Refused(why, place) => none(),
@@ -46,7 +46,7 @@ pub fn look(trace: &[u8], i: usize, known: Verdict) -> Seen
             let e = bytes::read_record(trace, i);
             match event::misread(i, e) {
                 Verdict::Refused(why, place) => none(),
-                Verdict::Passed => Seen { on: true, e: e },
+                Verdict::Passed => Seen { due: true, e: e },
             }
         }
     }
@@ -62,9 +62,10 @@ pub fn verdict_at(i: usize, attempt: Attempt) -> Verdict
     }
 }
 
-// The verdict of the whole, where i records are stepped and none is to be stepped next.
+// The verdict of the whole, where i records are stepped and none is to be stepped next. It makes the tests of `look` once more, for the record where the trace ends: a
+// verdict that is answered with each record takes more (docs/DECISIONS.md, base 7).
 pub fn concluded(trace: &[u8], i: usize, known: Verdict) -> Verdict
-    requires { ⌜ ¬ Next (now trace) i known ⌝ }
+    requires { ⌜ ¬ Due (now trace) i known ⌝ }
     ensures { λ v. ⌜ Concludes (now (trace .entry)) i known v ⌝ }
 {
     match known {

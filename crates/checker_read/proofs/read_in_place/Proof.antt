@@ -1,4 +1,4 @@
--- `read_in_place` meets its contract: a walk of its MIR, written by tools/walks. The borrows are opened, the fields are lent to `read-parts` for a lifetime ν of the call, and what is lent is put together again.
+-- `read_in_place` meets its contract: a walk of its MIR, written by tools/walks. The borrows are opened, the fields are lent for a lifetime ν of the call, and what is lent is put together again.
 use mathlib.Core.Path.{_≡_, refl}
 use Prim.Native.Nat.{ℕ}
 use mathlib.Core.List.{[], _∷_, List}
@@ -97,10 +97,10 @@ module _ {M : Type 1} (𝓤 : URA M) (H : Heap 𝓤) (A : Atoms 𝓤) (W : Given
 
   exits : (u : Val) (r : Verdict) (y₀ : Program) (y₁ : Machine) → Begins (t₂ .now) r (columnsOf y₀) (stateOf y₁) → Is D.the-row r (u ∷ [])
       → ent 𝓤 (⋆ 𝓤 H A (‵ (fobs γ₀ (G.the-row .coded .code y₀)) ∷ ‵ (fbor κ₀ (Body (mem G.the-row) b₀ o₀ γ₀)) ∷ ‵ (fobs γ₁ (T.the-row .coded .code y₁)) ∷ ‵ (fbor κ₁ (Body (mem T.the-row) b₁ o₁ γ₁)) ∷ ‵ (flft κ₀ q₀) ∷ ‵ (flft κ₁ q₁) ∷ ‵
-      (flft κ₂ q₂) ∷ ‵ ftrue ∷ ‵ Own₂ ∷ [])) (Post u)
+      (flft κ₂ q₂) ∷ ‵ (ftrue) ∷ ‵ (Own₂) ∷ [])) (Post u)
   exits u r y₀ y₁ told is =
       qed W (‵ (fobs γ₀ (G.the-row .coded .code y₀)) ∷ ‵ (fbor κ₀ (Body (mem G.the-row) b₀ o₀ γ₀)) ∷ ‵ (fobs γ₁ (T.the-row .coded .code y₁)) ∷ ‵ (fbor κ₁ (Body (mem T.the-row) b₁ o₁ γ₁)) ∷ ‵ (flft κ₀ q₀) ∷ ‵ (flft κ₁ q₁) ∷ ‵ (flft κ₂ q₂) ∷
-      ‵ ftrue ∷ ‵ Own₂ ∷ []) ∵
+      ‵ (ftrue) ∷ ‵ (Own₂) ∷ []) ∵
       suffices ! _ (ends-at 𝓤 H A f.ended stayed (f.clauses 𝓤 H A at-mem run) W (((κ₀, (κ₁, (κ₂, tt))), (q₀, (q₁, (q₂, tt))), tt, x, at), tt) u r (y₀, (y₁, (tt, tt))) (tt, (tt, (tt, tt)))) $ says ! told $
       move ! (6 ∷ 7 ∷ []) $ join ! $ move ! (6 ∷ 0 ∷ []) $ join ! $ move ! (5 ∷ 0 ∷ []) $ join ! $ frame ! $
       nothing ! $ move ! (5 ∷ 0 ∷ []) $ fjoin ! $ move ! (3 ∷ 4 ∷ []) $ feqI ! (List Val) (vptr b₁ o₁ ∷ []) (vptr b₁ o₁ ∷ []) refl $ fjoin3 ! $ fjoin ! $ move ! (1 ∷ 2 ∷ []) $ feqI ! (List Val) (vptr b₀ o₀ ∷ []) (vptr b₀ o₀ ∷ []) refl $

@@ -126,9 +126,6 @@ tyOf (local τ h ∷ ls) (suc n) = tyOf ls n
 abbrev tyAt : ℕ → Ty
 tyAt n = tyOf steps.locals n
 
-only : (w u : Val) → _≡_ {A = List Val} (w ∷ []) (u ∷ []) → w ≡ u
-only w u e = cc
-
 module _ {M : Type 1} (𝓤 : URA M) (H : Heap 𝓤) (A : Atoms 𝓤) (W : Given 𝓤 H A) (at-mem : Memory → SProp 𝓤) (run : Routine → Fun 𝓤) (κ₀ κ₁ κ₂ : Lft) (q₀ q₁ q₂ : Share) (t₀ : RefT (List ℕ)) (room₀ : Room u8 (length (t₀ .now))) (t₁ : RefT
     (List ℕ)) (room₁ : Room u8 (length (t₁ .now))) (t₂ : RefT (List ℕ)) (room₂ : Room u32 (length (t₂ .now))) where
   abbrev s₀ : Val
@@ -159,9 +156,9 @@ module _ {M : Type 1} (𝓤 : URA M) (H : Heap 𝓤) (A : Atoms 𝓤) (W : Given
   Post = walkOf 𝓤 H A f.ended stayed (f.clauses 𝓤 H A at-mem run) .post (((κ₀, (κ₁, (κ₂, tt))), (q₀, (q₁, (q₂, tt))), tt, x, at), tt)
 
   exits : (u : Val) (r : Answer) (z₂ : List ℕ) → replyOf r z₂ ≡ checked (t₀ .now) (t₁ .now) (t₂ .now) → length z₂ ≡ length (t₂ .now) → Is B.the-row r (u ∷ [])
-      → ent 𝓤 (⋆ 𝓤 H A (‵ (flft κ₀ q₀) ∷ ‵ (flft κ₁ q₁) ∷ ‵ (flft κ₂ q₂) ∷ ‵ ftrue ∷ ‵ Own₀ ∷ ‵ Own₁ ∷ ‵ (finally u32 (t₂ .name) z₂) ∷ [])) (Post u)
+      → ent 𝓤 (⋆ 𝓤 H A (‵ (flft κ₀ q₀) ∷ ‵ (flft κ₁ q₁) ∷ ‵ (flft κ₂ q₂) ∷ ‵ (ftrue) ∷ ‵ (Own₀) ∷ ‵ (Own₁) ∷ ‵ (finally u32 (t₂ .name) z₂) ∷ [])) (Post u)
   exits u r z₂ told long₂ is =
-      qed W (‵ (flft κ₀ q₀) ∷ ‵ (flft κ₁ q₁) ∷ ‵ (flft κ₂ q₂) ∷ ‵ ftrue ∷ ‵ Own₀ ∷ ‵ Own₁ ∷ ‵ (finally u32 (t₂ .name) z₂) ∷ []) ∵
+      qed W (‵ (flft κ₀ q₀) ∷ ‵ (flft κ₁ q₁) ∷ ‵ (flft κ₂ q₂) ∷ ‵ (ftrue) ∷ ‵ (Own₀) ∷ ‵ (Own₁) ∷ ‵ (finally u32 (t₂ .name) z₂) ∷ []) ∵
       suffices ! _ (ends-at 𝓤 H A f.ended stayed (f.clauses 𝓤 H A at-mem run) W (((κ₀, (κ₁, (κ₂, tt))), (q₀, (q₁, (q₂, tt))), tt, x, at), tt) u r (tt, (tt, (z₂, tt))) (tt, (tt, (long₂, tt)))) $ says ! told $
       move ! (2 ∷ 3 ∷ []) $ join ! $ move ! (2 ∷ 0 ∷ []) $ join ! $ move ! (1 ∷ 0 ∷ []) $ join ! $ frame ! $
       nothing ! $ move ! (3 ∷ 0 ∷ []) $ fjoin ! $ move ! (2 ∷ 0 ∷ []) $ fjoin ! $ move ! (1 ∷ 0 ∷ []) $ fjoin ! $

@@ -80,10 +80,10 @@ use Rattle.trace.proofs.follow.follow_in_place as follow
 use Rattle.trace.proofs.follow.follow_in_place.Symbol as follow-def
 use Rattle.trace.proofs.follow.follow_in_place.Symbol.{name as #follow}
 use Rattle.trace.proofs.follow.follow_in_place.Met as follow-thm
-use Rattle.finish_run.proofs.finish.finish_in_place as finish
-use Rattle.finish_run.proofs.finish.finish_in_place.Symbol as finish-def
-use Rattle.finish_run.proofs.finish.finish_in_place.Symbol.{name as #finish}
-use Rattle.finish_run.proofs.finish.finish_in_place.Met as finish-thm
+use Rattle.finish_run.proofs.reply.finish_in_place as finish
+use Rattle.finish_run.proofs.reply.finish_in_place.Symbol as finish-def
+use Rattle.finish_run.proofs.reply.finish_in_place.Symbol.{name as #finish}
+use Rattle.finish_run.proofs.reply.finish_in_place.Met as finish-thm
 use Rattle.checker.proofs.finish.finish.Key.{name as #f}
 use Rattle.checker.proofs.finish.finish as f
 use Rattle.checker.proofs.finish.finish.Statement as stated
@@ -126,9 +126,6 @@ tyOf (local τ h ∷ ls) (suc n) = tyOf ls n
 abbrev tyAt : ℕ → Ty
 tyAt n = tyOf steps.locals n
 
-only : (w u : Val) → _≡_ {A = List Val} (w ∷ []) (u ∷ []) → w ≡ u
-only w u e = cc
-
 module _ {M : Type 1} (𝓤 : URA M) (H : Heap 𝓤) (A : Atoms 𝓤) (W : Given 𝓤 H A) (at-mem : Memory → SProp 𝓤) (run : Routine → Fun 𝓤) (κ₀ κ₁ κ₂ : Lft) (q₀ q₁ q₂ : Share) (t₀ : RefT (List ℕ)) (room₀ : Room u8 (length (t₀ .now))) (t₁ : RefT
     (List ℕ)) (room₁ : Room u8 (length (t₁ .now))) (t₂ : RefT (List ℕ)) (room₂ : Room u8 (length (t₂ .now))) where
   abbrev s₀ : Val
@@ -159,9 +156,9 @@ module _ {M : Type 1} (𝓤 : URA M) (H : Heap 𝓤) (A : Atoms 𝓤) (W : Given
   Post = walkOf 𝓤 H A f.ended stayed (f.clauses 𝓤 H A at-mem run) .post (((κ₀, (κ₁, (κ₂, tt))), (q₀, (q₁, (q₂, tt))), tt, x, at), tt)
 
   exits : (u : Val) (r : Answer) (z₂ : List ℕ) → replyOf r z₂ ≡ completed (t₀ .now) (t₁ .now) (t₂ .now) → length z₂ ≡ length (t₂ .now) → Is B.the-row r (u ∷ [])
-      → ent 𝓤 (⋆ 𝓤 H A (‵ (flft κ₀ q₀) ∷ ‵ (flft κ₁ q₁) ∷ ‵ (flft κ₂ q₂) ∷ ‵ ftrue ∷ ‵ Own₀ ∷ ‵ Own₁ ∷ ‵ (finally u8 (t₂ .name) z₂) ∷ [])) (Post u)
+      → ent 𝓤 (⋆ 𝓤 H A (‵ (flft κ₀ q₀) ∷ ‵ (flft κ₁ q₁) ∷ ‵ (flft κ₂ q₂) ∷ ‵ (ftrue) ∷ ‵ (Own₀) ∷ ‵ (Own₁) ∷ ‵ (finally u8 (t₂ .name) z₂) ∷ [])) (Post u)
   exits u r z₂ told long₂ is =
-      qed W (‵ (flft κ₀ q₀) ∷ ‵ (flft κ₁ q₁) ∷ ‵ (flft κ₂ q₂) ∷ ‵ ftrue ∷ ‵ Own₀ ∷ ‵ Own₁ ∷ ‵ (finally u8 (t₂ .name) z₂) ∷ []) ∵
+      qed W (‵ (flft κ₀ q₀) ∷ ‵ (flft κ₁ q₁) ∷ ‵ (flft κ₂ q₂) ∷ ‵ (ftrue) ∷ ‵ (Own₀) ∷ ‵ (Own₁) ∷ ‵ (finally u8 (t₂ .name) z₂) ∷ []) ∵
       suffices ! _ (ends-at 𝓤 H A f.ended stayed (f.clauses 𝓤 H A at-mem run) W (((κ₀, (κ₁, (κ₂, tt))), (q₀, (q₁, (q₂, tt))), tt, x, at), tt) u r (tt, (tt, (z₂, tt))) (tt, (tt, (long₂, tt)))) $ says ! told $
       move ! (2 ∷ 3 ∷ []) $ join ! $ move ! (2 ∷ 0 ∷ []) $ join ! $ move ! (1 ∷ 0 ∷ []) $ join ! $ frame ! $
       nothing ! $ move ! (3 ∷ 0 ∷ []) $ fjoin ! $ move ! (2 ∷ 0 ∷ []) $ fjoin ! $ move ! (1 ∷ 0 ∷ []) $ fjoin ! $
@@ -466,5 +463,5 @@ finish-spec 𝓤 H 𝓜 𝓖 𝓡 =
       of-at-start = cited 𝓤 H (On-at-start 𝓤 H (𝓖 .A) (𝓜 .mem) (𝓡 .run)) 𝓜 𝓡 code.env #at-start at-start-def.routine code.calls-checker·start·at-start (at-start-thm.met 𝓤 H 𝓜 𝓖 𝓡);
       of-read = cited 𝓤 H (On-read 𝓤 H (𝓖 .A) (𝓜 .mem) (𝓡 .run)) 𝓜 𝓡 code.env #read read-def.routine code.calls-checker-read·read-in-place (read-thm.met 𝓤 H 𝓜 𝓖 𝓡);
       of-follow = cited 𝓤 H (On-follow 𝓤 H (𝓖 .A) (𝓜 .mem) (𝓡 .run)) 𝓜 𝓡 code.env #follow follow-def.routine code.calls-trace·follow·follow-in-place (follow-thm.met 𝓤 H 𝓜 𝓖 𝓡);
-      of-finish = cited 𝓤 H (On-finish 𝓤 H (𝓖 .A) (𝓜 .mem) (𝓡 .run)) 𝓜 𝓡 code.env #finish finish-def.routine code.calls-finish-run·finish·finish-in-place (finish-thm.met 𝓤 H 𝓜 𝓖 𝓡);
+      of-finish = cited 𝓤 H (On-finish 𝓤 H (𝓖 .A) (𝓜 .mem) (𝓡 .run)) 𝓜 𝓡 code.env #finish finish-def.routine code.calls-finish-run·reply·finish-in-place (finish-thm.met 𝓤 H 𝓜 𝓖 𝓡);
     }))

@@ -1,4 +1,4 @@
--- `reply_in_place` meets its contract: a walk of its MIR, written by tools/walks. The borrows are opened, the fields are lent to `reply-parts` for a lifetime ν of the call, and what is lent is put together again.
+-- `reply_in_place` meets its contract: a walk of its MIR, written by tools/walks. The borrows are opened, the fields are lent for a lifetime ν of the call, and what is lent is put together again.
 use mathlib.Core.Path.{_≡_, refl, _∙_}
 use Prim.Native.Nat.{ℕ}
 use mathlib.Core.List.{[], _∷_, List}
@@ -50,7 +50,6 @@ use Rattle.model.specs.declared.table.Program.{Program}
 use Rattle.model.proofs.table.Program as G
 use Rattle.machine_state.specs.declared.state.Machine.{Machine}
 use Rattle.machine_state.proofs.state.Machine as T
-use lib.ListN.{take}
 use Rattle.model.specs.Calls.{replied, checkedAt}
 use Rattle.model.specs.Code.{testedOf}
 use Rattle.model.specs.Reply.{replyOf}
@@ -59,7 +58,6 @@ use Rattle.machine.specs.View.{machineOf}
 use Rattle.machine.specs.Ready.{Ready}
 use Rattle.checker_report.specs.Reports.{repliedIn}
 use Rattle.checker_report.proofs.Replying.{cells-long, replied-is}
-use mathlib.Core.Path.{_∙_}
 use Rattle.checker_report.proofs.reply.reply_parts as reply-parts
 use Rattle.checker_report.proofs.reply.reply_parts.Symbol as reply-parts-def
 use Rattle.checker_report.proofs.reply.reply_parts.Symbol.{name as #reply-parts}
@@ -139,9 +137,9 @@ module _ {M : Type 1} (𝓤 : URA M) (H : Heap 𝓤) (A : Atoms 𝓤) (W : Given
   Post = walkOf 𝓤 H A f.ended stayed (f.clauses 𝓤 H A at-mem run) .post (((κ₀, (κ₁, (κ₂, (κ₃, tt)))), (q₀, (q₁, (q₂, (q₃, tt)))), tt, x, at), tt)
 
   exits : (u : Val) (r : Answer) (z₄ : List ℕ) → replyOf r z₄ ≡ replied (t₄ .now) (testedOf v₂ (machineOf (columnsOf x₀) (stateOf x₁))) (checkedAt (t₃ .now) (t₄ .now)) → length z₄ ≡ length (t₄ .now) → Is B.the-row r (u ∷ [])
-      → ent 𝓤 (⋆ 𝓤 H A (‵ (flft κ₀ q₀) ∷ ‵ (flft κ₁ q₁) ∷ ‵ (flft κ₂ q₂) ∷ ‵ (flft κ₃ q₃) ∷ ‵ ftrue ∷ ‵ Own₀ ∷ ‵ Own₁ ∷ ‵ Own₃ ∷ ‵ (finally u32 (t₄ .name) z₄) ∷ [])) (Post u)
+      → ent 𝓤 (⋆ 𝓤 H A (‵ (flft κ₀ q₀) ∷ ‵ (flft κ₁ q₁) ∷ ‵ (flft κ₂ q₂) ∷ ‵ (flft κ₃ q₃) ∷ ‵ (ftrue) ∷ ‵ (Own₀) ∷ ‵ (Own₁) ∷ ‵ (Own₃) ∷ ‵ (finally u32 (t₄ .name) z₄) ∷ [])) (Post u)
   exits u r z₄ told long₄ is =
-      qed W (‵ (flft κ₀ q₀) ∷ ‵ (flft κ₁ q₁) ∷ ‵ (flft κ₂ q₂) ∷ ‵ (flft κ₃ q₃) ∷ ‵ ftrue ∷ ‵ Own₀ ∷ ‵ Own₁ ∷ ‵ Own₃ ∷ ‵ (finally u32 (t₄ .name) z₄) ∷ []) ∵
+      qed W (‵ (flft κ₀ q₀) ∷ ‵ (flft κ₁ q₁) ∷ ‵ (flft κ₂ q₂) ∷ ‵ (flft κ₃ q₃) ∷ ‵ (ftrue) ∷ ‵ (Own₀) ∷ ‵ (Own₁) ∷ ‵ (Own₃) ∷ ‵ (finally u32 (t₄ .name) z₄) ∷ []) ∵
       suffices ! _ (ends-at 𝓤 H A f.ended stayed (f.clauses 𝓤 H A at-mem run) W (((κ₀, (κ₁, (κ₂, (κ₃, tt)))), (q₀, (q₁, (q₂, (q₃, tt)))), tt, x, at), tt) u r (tt, (tt, (tt, (tt, (z₄, tt))))) (tt, (tt, (tt, (tt, (long₄, tt)))))) $ says !
       told $
       move ! (3 ∷ 4 ∷ []) $ join ! $ move ! (3 ∷ 0 ∷ []) $ join ! $ move ! (2 ∷ 0 ∷ []) $ join ! $ move ! (1 ∷ 0 ∷ []) $ join ! $ frame ! $

@@ -1,4 +1,4 @@
--- `step_in_place` meets its contract: a walk of its MIR, written by tools/walks. The borrows are opened, the fields are lent to `step` for a lifetime ν of the call, and what is lent is put together again.
+-- `step_in_place` meets its contract: a walk of its MIR, written by tools/walks. The borrows are opened, the fields are lent for a lifetime ν of the call, and what is lent is put together again.
 use mathlib.Core.Path.{refl}
 use Prim.Native.Nat.{ℕ}
 use mathlib.Core.List.{[], _∷_, List}
@@ -100,9 +100,9 @@ module _ {M : Type 1} (𝓤 : URA M) (H : Heap 𝓤) (A : Atoms 𝓤) (W : Given
   Post = walkOf 𝓤 H A f.ended stayed (f.clauses 𝓤 H A at-mem run) .post (((κ₀, (κ₁, tt)), (q₀, (q₁, tt)), tt, x, at), tt)
 
   exits : (u : Val) (r : Attempt) (y₁ : Machine) → Steps (columnsOf x₀) (stateOf x₁) v₂ r (stateOf y₁) → Is Q.the-row r (u ∷ [])
-      → ent 𝓤 (⋆ 𝓤 H A (‵ (fobs γ₁ (T.the-row .coded .code y₁)) ∷ ‵ (fbor κ₁ (Body (mem T.the-row) b₁ o₁ γ₁)) ∷ ‵ (flft κ₀ q₀) ∷ ‵ (flft κ₁ q₁) ∷ ‵ ftrue ∷ ‵ Own₀ ∷ [])) (Post u)
+      → ent 𝓤 (⋆ 𝓤 H A (‵ (fobs γ₁ (T.the-row .coded .code y₁)) ∷ ‵ (fbor κ₁ (Body (mem T.the-row) b₁ o₁ γ₁)) ∷ ‵ (flft κ₀ q₀) ∷ ‵ (flft κ₁ q₁) ∷ ‵ (ftrue) ∷ ‵ (Own₀) ∷ [])) (Post u)
   exits u r y₁ told is =
-      qed W (‵ (fobs γ₁ (T.the-row .coded .code y₁)) ∷ ‵ (fbor κ₁ (Body (mem T.the-row) b₁ o₁ γ₁)) ∷ ‵ (flft κ₀ q₀) ∷ ‵ (flft κ₁ q₁) ∷ ‵ ftrue ∷ ‵ Own₀ ∷ []) ∵
+      qed W (‵ (fobs γ₁ (T.the-row .coded .code y₁)) ∷ ‵ (fbor κ₁ (Body (mem T.the-row) b₁ o₁ γ₁)) ∷ ‵ (flft κ₀ q₀) ∷ ‵ (flft κ₁ q₁) ∷ ‵ (ftrue) ∷ ‵ (Own₀) ∷ []) ∵
       suffices ! _ (ends-at 𝓤 H A f.ended stayed (f.clauses 𝓤 H A at-mem run) W (((κ₀, (κ₁, tt)), (q₀, (q₁, tt)), tt, x, at), tt) u r (tt, (y₁, (tt, tt))) (tt, (tt, (tt, tt)))) $ says ! told $
       move ! (3 ∷ 4 ∷ []) $ join ! $ move ! (3 ∷ 0 ∷ []) $ join ! $ frame ! $
       nothing ! $ owned ! E.the-row (Is E.the-row) (LL.makes E.the-type E′.the-plain 𝓤 H A) v₂ _ v₂-is $ fjoin ! $ move ! (1 ∷ 2 ∷ []) $ feqI ! (List Val) (vptr b₁ o₁ ∷ []) (vptr b₁ o₁ ∷ []) refl $ fjoin3 ! $ fjoin ! $ move ! (1 ∷ 0 ∷ [])

@@ -1,5 +1,4 @@
--- `follow_in_place` meets its contract: a walk of its MIR, with its loop, written by tools/walks. The machine's borrow is opened before the loop and closed after it; at each turn the machine is lent whole, for a lifetime that is made for
--- the step.
+-- `follow_in_place` meets its contract: a walk of its MIR, written by tools/walks. The machine's borrow is opened before the loop and closed after it; at each turn the machine is lent whole, for a lifetime that is made for the step.
 use mathlib.Core.Path.{_≡_, refl, sym, subst}
 use mathlib.Core.Bool.{Bool, true, false, not}
 use Prim.Native.Nat.{ℕ, zero, suc, _<_, _^_, _+_, _-_, _/_}
@@ -147,8 +146,8 @@ use Rattle.model.specs.Kinds.{stepUses}
 use Rattle.machine_state.specs.Packed.{stateOf, columnsOf}
 use Rattle.machine.specs.Ready.{Ready, Steps}
 use Rattle.trace.specs.Follows.{Follows}
-use Rattle.trace.specs.Turns.{verdictAt, Looks, Stepped, Concludes}
-use Rattle.trace.proofs.Turns.{proper, begun, turned}
+use Rattle.trace.specs.Turns.{verdictAt, Looks, FollowsUpTo, Concludes}
+use Rattle.trace.proofs.Turns.{proper, begun, stepped-on}
 use Rattle.trace.proofs.look.look as look
 use Rattle.trace.proofs.look.look.Symbol as look-def
 use Rattle.trace.proofs.look.look.Symbol.{name as #look}
@@ -256,9 +255,9 @@ module _ {M : Type 1} (𝓤 : URA M) (H : Heap 𝓤) (A : Atoms 𝓤) (W : Given
   Post = walkOf 𝓤 H A f.ended stayed (f.clauses 𝓤 H A at-mem run) .post (((κ₀, (κ₁, (κ₂, tt))), (q₀, (q₁, (q₂, tt))), tt, x, at), tt)
 
   exits : (u : Val) (r : Verdict) (y₁ : Machine) → Follows (columnsOf x₀) (stateOf x₁) v₂ (t₃ .now) r (stateOf y₁) → Is D.the-row r (u ∷ [])
-      → ent 𝓤 (⋆ 𝓤 H A (‵ (fobs γ₁ (T.the-row .coded .code y₁)) ∷ ‵ (fbor κ₁ (Body (mem T.the-row) b₁ o₁ γ₁)) ∷ ‵ (flft κ₀ q₀) ∷ ‵ (flft κ₁ q₁) ∷ ‵ (flft κ₂ q₂) ∷ ‵ ftrue ∷ ‵ Own₀ ∷ ‵ Own₃ ∷ [])) (Post u)
+      → ent 𝓤 (⋆ 𝓤 H A (‵ (fobs γ₁ (T.the-row .coded .code y₁)) ∷ ‵ (fbor κ₁ (Body (mem T.the-row) b₁ o₁ γ₁)) ∷ ‵ (flft κ₀ q₀) ∷ ‵ (flft κ₁ q₁) ∷ ‵ (flft κ₂ q₂) ∷ ‵ (ftrue) ∷ ‵ (Own₀) ∷ ‵ (Own₃) ∷ [])) (Post u)
   exits u r y₁ told is =
-      qed W (‵ (fobs γ₁ (T.the-row .coded .code y₁)) ∷ ‵ (fbor κ₁ (Body (mem T.the-row) b₁ o₁ γ₁)) ∷ ‵ (flft κ₀ q₀) ∷ ‵ (flft κ₁ q₁) ∷ ‵ (flft κ₂ q₂) ∷ ‵ ftrue ∷ ‵ Own₀ ∷ ‵ Own₃ ∷ []) ∵
+      qed W (‵ (fobs γ₁ (T.the-row .coded .code y₁)) ∷ ‵ (fbor κ₁ (Body (mem T.the-row) b₁ o₁ γ₁)) ∷ ‵ (flft κ₀ q₀) ∷ ‵ (flft κ₁ q₁) ∷ ‵ (flft κ₂ q₂) ∷ ‵ (ftrue) ∷ ‵ (Own₀) ∷ ‵ (Own₃) ∷ []) ∵
       suffices ! _ (ends-at 𝓤 H A f.ended stayed (f.clauses 𝓤 H A at-mem run) W (((κ₀, (κ₁, (κ₂, tt))), (q₀, (q₁, (q₂, tt))), tt, x, at), tt) u r (tt, (y₁, (tt, (tt, tt)))) (tt, (tt, (tt, (tt, tt))))) $ says ! told $
       move ! (4 ∷ 5 ∷ []) $ join ! $ move ! (4 ∷ 0 ∷ []) $ join ! $ move ! (3 ∷ 0 ∷ []) $ join ! $ frame ! $
       nothing ! $ move ! (4 ∷ 0 ∷ []) $ fjoin ! $ owned ! D.the-row (Is D.the-row) (EL.makes D.the-type D′.the-plain 𝓤 H A) v₂ _ v₂-is $ fjoin ! $ move ! (1 ∷ 2 ∷ []) $ feqI ! (List Val) (vptr b₁ o₁ ∷ []) (vptr b₁ o₁ ∷ []) refl $ fjoin3 !
@@ -273,7 +272,7 @@ module _ {M : Type 1} (𝓤 : URA M) (H : Heap 𝓤) (A : Atoms 𝓤) (W : Given
   Turn = ℕ × (Machine × (Verdict × Val))
 
   abbrev Then : ℕ → Turn → Type 0
-  Then left z = (n - z .0 ≡ left) × (z .0 < 2 ^ 64) × Is D.the-row (z .1 .1 .0) (z .1 .1 .1 ∷ []) × Stepped (columnsOf x₀) (stateOf x₁) v₂ (t₃ .now) (stateOf (z .1 .0)) (z .0) (z .1 .1 .0)
+  Then left z = (n - z .0 ≡ left) × (z .0 < 2 ^ 64) × Is D.the-row (z .1 .1 .0) (z .1 .1 .1 ∷ []) × FollowsUpTo (columnsOf x₀) (stateOf x₁) v₂ (t₃ .now) (stateOf (z .1 .0)) (z .0) (z .1 .1 .0)
 
   abbrev begin : Turn
   begin = (0, (x₁, (v₂, v₂-val)))
@@ -326,15 +325,15 @@ module _ {M : Type 1} (𝓤 : URA M) (H : Heap 𝓤) (A : Atoms 𝓤) (W : Given
         (and-then ! (load ! (from ! (stop !)) (look ! 13 refl)) (and-then ! (load ! (from ! (stop !)) (look ! 14 refl)) (and-then ! (load ! (from ! (stop !)) (look ! 15 refl)) (no-more !)))) (λ w₁.
         use1 W (later (some (λ (r : Seen). ((‵ (flft κ₂ q₂) ⊛ ‵ ftrue) ⊛ ‵ (S.the-row .own r (w₁ ∷ []))) ⊛ raw (ensured 𝓤 H A look.ended (look.clauses 𝓤 H A at-mem run) (κ₂, tt) (t₃, (i, (v, tt))) tt r)))) (id⊢ 𝓤 _) $ await ! tt $ pick !
         (λ z. split ! $ move ! (1 ∷ []) $
-        use1 W (some (λ (ws : Unit {0} × (Unit {0} × (Unit {0} × Unit {0}))). ‵ (lasts look.ended (κ₂, tt) (t₃, (i, (v, tt))) ws) ⊛ raw (fact 𝓤 (Looks (t₃ .now) i v (z .on) (z .e))))) (id⊢ 𝓤 _) $ pick ! (λ last-z. split ! $ move ! (1 ∷ [])
-        $ heard ! (Looks (t₃ .now) i v (z .on) (z .e)) (λ told-z. move ! (1 ∷ []) $ split ! $ move ! (2 ∷ []) $ fsplit ! $ drop ! $ fsplit ! $ drop ! $ fsplit ! $ drop ! $ drop ! $
+        use1 W (some (λ (ws : Unit {0} × (Unit {0} × (Unit {0} × Unit {0}))). ‵ (lasts look.ended (κ₂, tt) (t₃, (i, (v, tt))) ws) ⊛ raw (fact 𝓤 (Looks (t₃ .now) i v (z .due) (z .e))))) (id⊢ 𝓤 _) $ pick ! (λ last-z. split ! $ move ! (1 ∷
+        []) $ heard ! (Looks (t₃ .now) i v (z .due) (z .e)) (λ told-z. move ! (1 ∷ []) $ split ! $ move ! (2 ∷ []) $ fsplit ! $ drop ! $ fsplit ! $ drop ! $ fsplit ! $ drop ! $ drop ! $
         move ! (1 ∷ []) $ peeks ! S.the-row (Is S.the-row) (shows 𝓤 H A S.the-row) z (w₁ ∷ []) (λ z-is. drop ! $ split ! $ move ! (1 ∷ []) $ drop ! $
         land ! (from ! (stop !)) (init ! 16 refl (LL.lawful S.the-type S′.the-laws 𝓤 H A W .typed z _ z-is .0)) $
         rewrite ! 16 (λ (u : Val). ‵ (fat fullShare (tyAt 7) l₇ 0 u)) (settled z w₁ z-is) refl $
         assigns ! (un ! (load ! (from ! (fld ! refl (stop !))) (look-in ! 16 (sub ! 0 refl (whole !)))) tt) (from ! (stop !)) (init ! 18 refl (tt, tt)) $
         tests ! (load ! (from ! (stop !)) (look ! 18 refl))
         -- a record is stepped
-        (λ on-is. let on = twice (z .on) on-is in
+        (λ on-is. let on = twice (z .due) on-is in
         assigns ! (addr ! (from ! (hop ! (look ! 11 refl) (stop !)))) (from ! (stop !)) (init ! 19 refl (tt, tt)) $
         move ! (6 ∷ []) $ use1 W (‵ Own₀ ⊛ ‵ Own₀) (shr-copy 𝓤 H A W (named 0) κ₀ G.the-row .twice ref₀ (vptr b₀ o₀ ∷ [])) $ split ! $
         lft-new ! tt (λ ν. move ! (5 ∷ []) $ use1 W (later (some (λ (δ : GName). ‵ (MutRef (named 1) (ν ∷ []) T.the-row .own (record { ptr = (b₁, o₁); name = δ; now = m }) (vptr b₁ o₁ ∷ [])) ⊛ ‵ (flent (ν ∷ []) (Body (mem T.the-row) b₁ o₁
@@ -414,8 +413,8 @@ module _ {M : Type 1} (𝓤 : URA M) (H : Heap 𝓤) (A : Atoms 𝓤) (W : Given
           refl,
           told-z .fits on,
           u-is,
-          turned (columnsOf x₀) (stateOf x₁) v₂ (t₃ .now) (stateOf m) i v (is .3) (told-z .next on) tried (stateOf (last-tried .1 .0)) (subst
-              (λ (e : Record). Steps (columnsOf x₀) (stateOf m) e tried (stateOf (last-tried .1 .0))) (told-z .is on) told-tried) u told-u,
+          stepped-on (columnsOf x₀) (stateOf x₁) v₂ (t₃ .now) (stateOf m) i v (is .3) (told-z .next on) tried (stateOf (last-tried .1 .0))
+              (subst (λ (e : Record). Steps (columnsOf x₀) (stateOf m) e tried (stateOf (last-tried .1 .0))) (told-z .is on) told-tried) u told-u,
         ) (fewer left i (is .0) (told-z .next on .inside))))))))))))))))
         -- there is none: the verdict
         (λ on-is. exec ! (𝓣 .C) (𝓣 .Λ) En steps.t-4 (atRet En Post) $
@@ -423,7 +422,7 @@ module _ {M : Type 1} (𝓤 : URA M) (H : Heap 𝓤) (A : Atoms 𝓤) (W : Given
         owned ! usize (Is usize) (uint-makes 𝓤 H A W w64) i _ (refl, is .1) $ owned ! D.the-row (Is D.the-row) (EL.makes D.the-type D′.the-plain 𝓤 H A) v _ (is .2) $ nothing ! $ move ! (5 ∷ 0 ∷ []) $ join ! $ nothing ! $ move ! (2 ∷ 0 ∷
         []) $ join ! $ move ! (2 ∷ 0 ∷ []) $ join ! $ move ! (3 ∷ 0 ∷ []) $ join ! $
         move ! (1 ∷ 0 ∷ []) $ use2 W (raw (On-concluded 𝓤 H A at-mem run .pre (((κ₂, tt), (q₂, tt), tt, (t₃, (i, (v, tt))), (s₃ ∷ [], (vint w64 i ∷ [], (w ∷ [], tt)))), tt))) (qed W ((‵ (flft κ₂ q₂) ⊛ ‵ ftrue) ∷ (‵ (Own₃) ⊛ (‵ (usize .own
-        i (vint w64 i ∷ [])) ⊛ (‵ (D.the-row .own v (w ∷ [])) ⊛ ‵ ftrue))) ∷ []) ∵ says ! (told-z .none (fails (z .on) on-is)) $ done !) $
+        i (vint w64 i ∷ [])) ⊛ (‵ (D.the-row .own v (w ∷ [])) ⊛ ‵ ftrue))) ∷ []) ∵ says ! (told-z .none (fails (z .due) on-is)) $ done !) $
         calls-at ! (fmOf 𝓤 H (W .laws) 𝓣) (On-concluded 𝓤 H A at-mem run) (known .of-concluded) (((κ₂, tt), (q₂, tt), tt, (t₃, (i, (v, tt))), (s₃ ∷ [], (vint w64 i ∷ [], (w ∷ [], tt)))), tt)
         (and-then ! (load ! (from ! (stop !)) (look ! 13 refl)) (and-then ! (load ! (from ! (stop !)) (look ! 14 refl)) (and-then ! (load ! (from ! (stop !)) (look ! 15 refl)) (no-more !)))) (λ w₄.
         use1 W (later (some (λ (r : Verdict). ((‵ (flft κ₂ q₂) ⊛ ‵ ftrue) ⊛ ‵ (D.the-row .own r (w₄ ∷ []))) ⊛ raw (ensured 𝓤 H A concluded.ended (concluded.clauses 𝓤 H A at-mem run) (κ₂, tt) (t₃, (i, (v, tt))) tt r)))) (id⊢ 𝓤 _) $ await !

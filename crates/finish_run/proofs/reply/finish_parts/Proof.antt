@@ -1,8 +1,8 @@
 use Rattle.model.specs.Calls.{replied}
 use mathlib.Core.Path.{_∙_}
 use borrow.Author.Needs.{needs}
-use Rattle.finish_run.proofs.finish.finish_parts.Statement.{statement}
-use Rattle.finish_run.proofs.finish.finish_parts.Tie as tie
+use Rattle.finish_run.proofs.reply.finish_parts.Statement.{statement}
+use Rattle.finish_run.proofs.reply.finish_parts.Tie as tie
 
 complete-requires : tie.Need-complete-requires
 complete-requires c κs =

@@ -13,7 +13,7 @@ use model::answer::Answer;
 use model::answer::Verdict;
 use model::table::Program;
 
-// The answer to a trace with this verdict, which leads to this state if it passed.
+// What `finish_in_place` does, on the arrays.
 fn finish_parts<'a>(
     codes: &'a [u8; Program::CODES],
     constants: &'a [u32; Program::PLACES],
@@ -38,7 +38,7 @@ fn finish_parts<'a>(
     }
 }
 
-// The answer to a trace with this verdict, which leads to this machine if it passed: the steps that are left are taken on it.
+// The answer to a finish whose trace has this verdict, and leads to this machine if it passed: the steps that are left are taken on it.
 pub fn finish_in_place(program: &Program, m: &mut Machine, end: Verdict, room: &mut [u8]) -> Answer
     requires { ⌜ (end ≡ Passed → Underway (columnsOf (now program)) (stateOf (now m))) ⌝ }
     ensures { λ r. ⌜ replyOf r (now (room .exit)) ≡ replied (now (room .entry))

@@ -1,4 +1,4 @@
--- `finish_in_place` meets its contract: a walk of its MIR, written by tools/walks. The borrows are opened, the fields are lent to `finish-parts` for a lifetime ν of the call, and what is lent is put together again.
+-- `finish_in_place` meets its contract: a walk of its MIR, written by tools/walks. The borrows are opened, the fields are lent for a lifetime ν of the call, and what is lent is put together again.
 use mathlib.Core.Path.{_≡_, refl}
 use Prim.Native.Nat.{ℕ}
 use mathlib.Core.List.{[], _∷_, List}
@@ -59,14 +59,14 @@ use Rattle.model.specs.Reply.{replyOf}
 use Rattle.machine_state.specs.Packed.{stateOf, columnsOf}
 use Rattle.machine.specs.View.{machineOf}
 use Rattle.finish_step.specs.Finishing.{Underway}
-use Rattle.finish_run.proofs.finish.finish_parts as finish-parts
-use Rattle.finish_run.proofs.finish.finish_parts.Symbol as finish-parts-def
-use Rattle.finish_run.proofs.finish.finish_parts.Symbol.{name as #finish-parts}
-use Rattle.finish_run.proofs.finish.finish_parts.Met as finish-parts-thm
-use Rattle.finish_run.proofs.finish.finish_in_place.Key.{name as #f}
-use Rattle.finish_run.proofs.finish.finish_in_place as f
-use Rattle.finish_run.proofs.finish.finish_in_place.Statement as stated
-use Rattle.finish_run.proofs.finish.finish_in_place.Code as code
+use Rattle.finish_run.proofs.reply.finish_parts as finish-parts
+use Rattle.finish_run.proofs.reply.finish_parts.Symbol as finish-parts-def
+use Rattle.finish_run.proofs.reply.finish_parts.Symbol.{name as #finish-parts}
+use Rattle.finish_run.proofs.reply.finish_parts.Met as finish-parts-thm
+use Rattle.finish_run.proofs.reply.finish_in_place.Key.{name as #f}
+use Rattle.finish_run.proofs.reply.finish_in_place as f
+use Rattle.finish_run.proofs.reply.finish_in_place.Statement as stated
+use Rattle.finish_run.proofs.reply.finish_in_place.Code as code
 
 abbrev stayed : Stays (f.ended .signature .params) (f.ended .kept)
 stayed = (stay-none-ref (0 ∷ []) tt (plain (λ _. G.the-row)) yes, (stay-ref (1 ∷ []) tt (plain (λ _. T.the-row)), (stay-none (λ _. D.the-row) yes, (gave-slice (2 ∷ []) tt (plain (λ _. u8)), tt))))
@@ -112,9 +112,9 @@ module _ {M : Type 1} (𝓤 : URA M) (H : Heap 𝓤) (A : Atoms 𝓤) (W : Given
   Post = walkOf 𝓤 H A f.ended stayed (f.clauses 𝓤 H A at-mem run) .post (((κ₀, (κ₁, (κ₂, tt))), (q₀, (q₁, (q₂, tt))), tt, x, at), tt)
 
   exits : (u : Val) (r : Answer) (y₁ : Machine) (z₃ : List ℕ) → replyOf r z₃ ≡ replied (t₃ .now) (testedOf v₂ (machineOf (columnsOf x₀) (stateOf x₁))) (completedAt (t₃ .now)) → length z₃ ≡ length (t₃ .now) → Is B.the-row r (u ∷ [])
-      → ent 𝓤 (⋆ 𝓤 H A (‵ (fobs γ₁ (T.the-row .coded .code y₁)) ∷ ‵ (fbor κ₁ (Body (mem T.the-row) b₁ o₁ γ₁)) ∷ ‵ (flft κ₀ q₀) ∷ ‵ (flft κ₁ q₁) ∷ ‵ (flft κ₂ q₂) ∷ ‵ ftrue ∷ ‵ Own₀ ∷ ‵ (finally u8 (t₃ .name) z₃) ∷ [])) (Post u)
+      → ent 𝓤 (⋆ 𝓤 H A (‵ (fobs γ₁ (T.the-row .coded .code y₁)) ∷ ‵ (fbor κ₁ (Body (mem T.the-row) b₁ o₁ γ₁)) ∷ ‵ (flft κ₀ q₀) ∷ ‵ (flft κ₁ q₁) ∷ ‵ (flft κ₂ q₂) ∷ ‵ (ftrue) ∷ ‵ (Own₀) ∷ ‵ (finally u8 (t₃ .name) z₃) ∷ [])) (Post u)
   exits u r y₁ z₃ told long₃ is =
-      qed W (‵ (fobs γ₁ (T.the-row .coded .code y₁)) ∷ ‵ (fbor κ₁ (Body (mem T.the-row) b₁ o₁ γ₁)) ∷ ‵ (flft κ₀ q₀) ∷ ‵ (flft κ₁ q₁) ∷ ‵ (flft κ₂ q₂) ∷ ‵ ftrue ∷ ‵ Own₀ ∷ ‵ (finally u8 (t₃ .name) z₃) ∷ []) ∵
+      qed W (‵ (fobs γ₁ (T.the-row .coded .code y₁)) ∷ ‵ (fbor κ₁ (Body (mem T.the-row) b₁ o₁ γ₁)) ∷ ‵ (flft κ₀ q₀) ∷ ‵ (flft κ₁ q₁) ∷ ‵ (flft κ₂ q₂) ∷ ‵ (ftrue) ∷ ‵ (Own₀) ∷ ‵ (finally u8 (t₃ .name) z₃) ∷ []) ∵
       suffices ! _ (ends-at 𝓤 H A f.ended stayed (f.clauses 𝓤 H A at-mem run) W (((κ₀, (κ₁, (κ₂, tt))), (q₀, (q₁, (q₂, tt))), tt, x, at), tt) u r (tt, (y₁, (tt, (z₃, tt)))) (tt, (tt, (tt, (long₃, tt))))) $ says ! told $
       move ! (4 ∷ 5 ∷ []) $ join ! $ move ! (4 ∷ 0 ∷ []) $ join ! $ move ! (3 ∷ 0 ∷ []) $ join ! $ frame ! $
       nothing ! $ move ! (4 ∷ 0 ∷ []) $ fjoin ! $ owned ! D.the-row (Is D.the-row) (EL.makes D.the-type D′.the-plain 𝓤 H A) v₂ _ v₂-is $ fjoin ! $ move ! (1 ∷ 2 ∷ []) $ feqI ! (List Val) (vptr b₁ o₁ ∷ []) (vptr b₁ o₁ ∷ []) refl $ fjoin3 !
@@ -276,5 +276,5 @@ finish-in-place-spec 𝓤 H 𝓜 𝓖 𝓡 =
     (tables 𝓤 H 𝓜 𝓡 code.env .C) (tables 𝓤 H 𝓜 𝓡 code.env .Λ) #f code.function (code.unfolded 𝓤 H 𝓜 𝓡)
     (f-meets 𝓤 H (𝓖 .A) (givenOf 𝓤 H 𝓜 𝓖) (𝓜 .mem) (𝓡 .run) (tablesOf 𝓤 H 𝓜 (tables 𝓤 H 𝓜 𝓡 code.env))
     (record {
-      of-finish-parts = cited 𝓤 H (On-finish-parts 𝓤 H (𝓖 .A) (𝓜 .mem) (𝓡 .run)) 𝓜 𝓡 code.env #finish-parts finish-parts-def.routine code.calls-finish-run·finish·finish-parts (finish-parts-thm.met 𝓤 H 𝓜 𝓖 𝓡);
+      of-finish-parts = cited 𝓤 H (On-finish-parts 𝓤 H (𝓖 .A) (𝓜 .mem) (𝓡 .run)) 𝓜 𝓡 code.env #finish-parts finish-parts-def.routine code.calls-finish-run·reply·finish-parts (finish-parts-thm.met 𝓤 H 𝓜 𝓖 𝓡);
     }))
