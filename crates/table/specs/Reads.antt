@@ -9,7 +9,8 @@ use Rattle.model.specs.Sizes.{processors, registersEach, locations, instruction
 use Rattle.model.specs.Code.{Columns, columns, cellsOf, unread, testedOf, startOf, Fits, Sized}
 use Rattle.model.specs.Reading.{reading}
 use Rattle.model.specs.Table.{start}
-use Rattle.model.specs.Tests.{andThen, passed}
+use Rattle.model.specs.Machine.{Machine}
+use Rattle.model.specs.Tests.{Tested, passed, andThen}
 
 -- ---- nothing entered
 
@@ -23,8 +24,12 @@ noCells = cellsOf (replicate (processors * registersEach) 0) (replicate location
 
 -- ---- the whole table
 
--- the verdict is the definition's, and a table that passed gives the machine that its entries start
+-- the machine that its entries start, or its refusal
+abbrev pub started : List ℕ → Tested Machine
+started table = andThen (reading table) (λ entries. passed (start entries))
+
+-- the verdict is the definition's, and a table that passed gives that machine
 pub record Reads (table : List ℕ) (verdict : Verdict) (program : Columns) (cells : Cells) : Type 0 where
-  pub says : testedOf verdict (startOf program cells) ≡ andThen (reading table) (λ entries. passed (start entries))
+  pub says : testedOf verdict (startOf program cells) ≡ started table
   pub fits : Fits program
   pub sized : Sized cells
