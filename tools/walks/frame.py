@@ -334,7 +334,7 @@ class Walk:
         body = '\n'.join(self.out) + '\n'
         mine = 'Rattle.%s.proofs.' % self.crate
         uses = kit.lines(kit.KIT, body)
-        here = 'Rattle.machine_thin%s.' % ('·proofs.proofs' if self.crate == 'machine_thin' else '.proofs')
+        here = 'Rattle.machine_in_place%s.' % ('·proofs.proofs' if self.crate == 'machine_in_place' else '.proofs')
         uses += kit.lines(here + 'Fields: Names Args Vals args vals Mutables Shareds SharedAt Lasts lasts-apart', body)
         for t in self.types.values():
             uses += t.uses(body)

@@ -19,7 +19,7 @@ use Rattle.machine_state.specs.State.{State}
 use Rattle.machine.specs.View.{machineOf}
 use Rattle.finish_step.specs.Finishing.{Underway}
 use Rattle.trace.specs.Follows.{Follows}
-use Rattle.checker_read.specs.Begins.{Begins}
+use Rattle.table.specs.Begins.{Begins}
 
 -- going on from where the entries start
 from-start : (t : Tested (List Entry)) (f : model.Machine → Tested model.Machine) → andThen (andThen t (λ entries. passed (start entries))) f ≡ andThen t (λ entries. f (start entries))

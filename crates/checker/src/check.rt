@@ -5,6 +5,7 @@ ghost use Rattle.model.specs.Reply.{replyOf};
 use crate::start;
 use checker_report::reply;
 use model::answer::Answer;
+use table::in_place;
 use trace::follow;
 
 // Any table, any trace, any room. On 0 the first Cells::WORDS words of the room are the registers and memory at the end, and the others are kept; on any other number all are kept.
@@ -13,7 +14,7 @@ pub fn check(table: &[u8], trace: &[u8], room: &mut [u32]) -> Answer
 {
     let mut program = start::no_program();
     let mut m = start::at_start();
-    let read = checker_read::read_in_place(&mut program, &mut m, table);
+    let read = in_place::read_in_place(&mut program, &mut m, table);
     let end = follow::follow_in_place(&program, &mut m, read, trace);
     reply::reply_in_place(&program, &m, end, trace, room)
 }

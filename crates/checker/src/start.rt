@@ -3,9 +3,9 @@ ghost use mathlib.Core.Path.{_≡_};
 ghost use Rattle.machine_state.specs.Packed.{stateOf, columnsOf};
 ghost use Rattle.machine.specs.Arrays.{startIn};
 ghost use Rattle.table.specs.Reads.{noProgram, noCells};
+use machine_rules::guards::NOBODY;
 use machine_state::state::Machine;
 use model::table::Program;
-use rules::guards::NOBODY;
 
 pub fn no_program() -> Program
     ensures { λ p. ⌜ columnsOf p ≡ noProgram ⌝ }

@@ -9,7 +9,7 @@ use borrow.Author.Tests.{not-true, not-false}
 use Rattle.model.specs.Reply.{Reply, done, refuse}
 use Rattle.model.proofs.Replies.{written-fits, written-not}
 use Rattle.machine_state.specs.Packed.{atIn, issuedIn, drainedIn, countsIn}
-use Rattle.machine_finished.specs.Finished.{finishedIn}
+use Rattle.machine_state.specs.Finished.{finishedIn}
 use Rattle.checker_report.specs.Reports.{reportedIn}
 
 module _ (codes cells marks : List ℕ) (steps : ℕ) (room : List ℕ) (f : Bool) (finished : f ≡ finishedIn (atIn marks) (countsIn codes) (drainedIn marks) (issuedIn marks)) where

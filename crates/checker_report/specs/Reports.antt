@@ -9,7 +9,7 @@ use Rattle.model.specs.Sizes.{resultWords}
 use Rattle.model.specs.Reply.{Reply, refuse, numberOf}
 use Rattle.model.specs.Calls.{written}
 use Rattle.machine_state.specs.Packed.{atIn, issuedIn, drainedIn, countsIn}
-use Rattle.machine_finished.specs.Finished.{finishedIn}
+use Rattle.machine_state.specs.Finished.{finishedIn}
 
 -- the first of the cells are the result
 unfoldable pub reportedIn : (codes cells marks : List ℕ) → ℕ → List ℕ → Reply

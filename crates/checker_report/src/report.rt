@@ -36,7 +36,7 @@ pub fn report(
     ensures { λ r. ⌜ replyOf r (now (room .exit))
         ≡ reportedIn (now (codes .entry)) (now (cells .entry)) (now (marks .entry)) steps (now (room .entry)) ⌝ }
 {
-    if !machine_finished::is_finished(codes, marks) {
+    if !machine_state::finished::is_finished(codes, marks) {
         return Answer::Refused(Refusal::Unfinished, steps);
     }
     if room.len() < Cells::WORDS {

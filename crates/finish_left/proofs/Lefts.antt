@@ -10,13 +10,14 @@ use lib.Seq.{slice, length-slice}
 use Rattle.model.specs.declared.record.Record.{Record}
 use Rattle.model.specs.Sizes.{processors, instructionsEach}
 use Rattle.model.specs.Program.{ProgramStep}
-use Rattle.model.specs.Kinds.{tableRows, entryOf}
+use Rattle.model.specs.Kinds.{tableUses, tableRows, entryOf}
 use Rattle.model.specs.Left.{writes, leftOf, leftIn as modelLeftIn, left}
 use Rattle.model.specs.Code.{Columns, placeAt, stepsIn, instructionAt, stepsFrom, countIn, Fits}
+use Rattle.model.proofs.Roles.{ofKind}
 use Rattle.model.proofs.Rows.{below}
 use Rattle.model.proofs.Columns.{stepsAt}
-use Rattle.rules.specs.Steps.{kindOf, stepsOfKind}
-use Rattle.rules.specs.Offers.{writesIn}
+use Rattle.machine_rules.specs.Steps.{kindOf, stepsOfKind}
+use Rattle.machine_rules.specs.Offers.{writesIn}
 use Rattle.machine_state.specs.State.{State}
 use Rattle.machine.specs.View.{leftFrom, todoIn, waitingIn, processorOf, machineOf}
 use Rattle.machine.specs.Ready.{ReadyAt, Ready}
@@ -60,13 +61,11 @@ module _ (kinds counts at phase issued drained : List ℕ) where
 
 -- the steps of a record have the kinds of its kind's steps
 same-kinds : (r : Record) → r .kind < tableRows → map kindOf (stepsIn (entryOf r)) ≡ map kindOf (stepsOfKind (r .kind))
-unfolding stepsIn stepsOfKind
-same-kinds r h = below 12 Same (refl, (refl, (refl, (refl, (refl, (refl, (refl, (refl, (refl, (refl, (refl, (refl, tt)))))))))))) (r .kind) h
+unfolding stepsIn stepsOfKind tableUses
+same-kinds r h = below tableRows Same (refl, (refl, (refl, (refl, (refl, (refl, (refl, (refl, (refl, (refl, (refl, (refl, tt)))))))))))) (r .kind) h
   where
     Same : ℕ → Type 0
-    Same k =
-        map kindOf (stepsIn (entryOf (record { kind = k; processor = r .processor; register = r .register; location = r .location; value = r .value })))
-        ≡ map kindOf (stepsOfKind k)
+    Same k = map kindOf (stepsIn (entryOf (ofKind r k))) ≡ map kindOf (stepsOfKind k)
 
 drop-map : (f : ℕ) (l : List ProgramStep) → drop f (map kindOf l) ≡ map kindOf (drop f l)
 drop-map zero l = refl
@@ -79,7 +78,7 @@ module _ (g : Columns) (fits : Fits g) (p : ℕ) (h : p < processors) where
   kinds-from a zero l = refl
   kinds-from a (suc n) l =
       map-append kindOf (stepsAt g p a) (stepsFrom g p (suc a) n)
-      ∙ (λ j. same-kinds (instructionAt g p a) (fits .each p a h (omega arith) .high) j ++ kinds-from (suc a) n (omega arith) j)
+      ∙ (λ j. same-kinds (instructionAt g p a) (fits .each p a h (omega arith) .known) j ++ kinds-from (suc a) n (omega arith) j)
 
   program-left : (a f : ℕ) → a ≤ countIn g p → programLeft (g .kinds) p (countIn g p) a f ≡ length (leftFrom g p a f) + writes (leftFrom g p a f)
   program-left a f l =
@@ -114,7 +113,7 @@ module _ (g : Columns) (m : State) (ready : Ready g m) where
       program = record {
         processor = h;
         few = ready .fits .few p;
-        each = λ b l. (ready .fits .each p b h l .high, stands-first g p b (ready .fits) h (omega arith) .inside l);
+        each = λ b l. (ready .fits .each p b h l .known, stands-first g p b (ready .fits) h (omega arith) .inside l);
         inside = at .stands .inside;
       };
       order = at .order;

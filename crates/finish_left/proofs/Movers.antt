@@ -8,12 +8,12 @@ use lib.Dec.{eqb, lit<}
 use Rattle.model.specs.Sizes.{processors}
 use Rattle.model.specs.Finish.{firstBusy, mover}
 use Rattle.model.specs.Code.{Columns, four}
-use Rattle.rules.specs.Guards.{nobody}
+use Rattle.machine_rules.specs.Guards.{nobody}
 use Rattle.machine_state.specs.State.{State}
 use Rattle.machine.specs.View.{processorOf, holderOf, machineOf}
 use Rattle.machine.specs.Ready.{Ready}
 use Rattle.machine.proofs.Ends.{done-is}
-use Rattle.machine_finished.specs.Finished.{doneAt}
+use Rattle.machine_state.specs.Finished.{doneAt}
 use Rattle.finish_left.specs.Mover.{firstBusyFrom, moverIn}
 
 -- ---- the search for the first processor that is not done

@@ -13,7 +13,7 @@ use Rattle.model.specs.Program.{ProgramStep, read, write, fence, lock, unlock, 
 use Rattle.model.specs.Kinds.{tableRows, entryOf}
 use Rattle.model.specs.Left.{writes}
 use Rattle.model.proofs.Columns.{entry-weight}
-use Rattle.rules.specs.Steps.{kindOf, phases, stepsOfKind, stepKind, stepCount}
+use Rattle.machine_rules.specs.Steps.{kindOf, phases, stepsOfKind, stepKind, stepCount}
 use Rattle.finish_left.specs.Weight.{stepWeight, weight, heaviest, kindAt, stepKindsFrom, programLeft, Countable}
 
 -- ---- at most five for each instruction

@@ -4,8 +4,8 @@ use mathlib.Core.List.{List}
 use Prim.Native.Nat.{ℕ, zero, suc}
 use lib.Dec.{eqb}
 use Rattle.model.specs.Sizes.{processors}
-use Rattle.rules.specs.Guards.{nobody}
-use Rattle.machine_finished.specs.Finished.{doneAt}
+use Rattle.machine_rules.specs.Guards.{nobody}
+use Rattle.machine_state.specs.Finished.{doneAt}
 
 -- the first of the n processors from p on that is not done
 unfoldable pub firstBusyFrom : (ℕ → Bool) → ℕ → ℕ → ℕ

@@ -7,7 +7,7 @@ use lib.Dec.{eqb}
 use Rattle.model.specs.Sizes.{processors, instructionsEach, stepsEach}
 use Rattle.model.specs.Kinds.{tableRows}
 use Rattle.model.specs.Code.{placeAt}
-use Rattle.rules.specs.Steps.{kindOf, stepsOfKind, stepCount}
+use Rattle.machine_rules.specs.Steps.{kindOf, stepsOfKind, stepCount}
 
 -- of a program step, by its kind
 abbrev pub stepWeight : ℕ → ℕ

@@ -6,11 +6,11 @@ ghost use lib.ListN.{getD};
 ghost use Rattle.machine_state.specs.Packed.{kindsIn, countsIn, atIn, phaseIn, issuedIn, drainedIn};
 ghost use Rattle.finish_left.specs.Weight.{stepWeight, heaviest, programLeft, Countable};
 ghost use Rattle.finish_left.specs.Left.{leftIn, AllCountable};
+use machine_rules::program;
+use machine_rules::program::WRITE;
 use machine_state::program as programs;
 use machine_state::state::Machine;
 use model::table::Program;
-use rules::program;
-use rules::program::WRITE;
 
 // A program step counts one, and a write one more for its drain.
 fn step_weight(kind: u8) -> usize

@@ -2,9 +2,9 @@
 ghost use mathlib.Core.Path.{_≡_};
 ghost use Rattle.machine_state.specs.Packed.{countsIn, atIn, issuedIn, drainedIn, holderIn};
 ghost use Rattle.finish_left.specs.Mover.{moverIn};
+use machine_rules::guards::NOBODY;
 use machine_state::state::Machine;
 use model::table::Program;
-use rules::guards::NOBODY;
 
 // The holder of the lock or, if it is free, the lowest-numbered processor with a program step left or a write waiting. With none, PROCESSORS.
 pub fn mover(codes: &[u8; Program::CODES], marks: &[usize; Machine::MARKS]) -> usize
@@ -17,7 +17,7 @@ pub fn mover(codes: &[u8; Program::CODES], marks: &[usize; Machine::MARKS]) -> u
     }
     let mut p = 0;
     while p < Program::PROCESSORS {
-        if !machine_finished::is_done(codes, marks, p) {
+        if !machine_state::finished::is_done(codes, marks, p) {
             return p;
         }
         p += 1;

@@ -5,13 +5,13 @@ use Prim.Native.Nat.{ℕ, zero, suc, _<_}
 use lib.ListN.{getD, set}
 use borrow.Author.Tests.{ne-eqb}
 use Rattle.model.specs.declared.record.Record.{Record}
-use Rattle.model.specs.Code.{placeAt, registerOf}
+use Rattle.model.specs.Code.{placeAt, registerOf, actsOf}
 use Rattle.model.specs.Machine.{WaitingWrite}
 use Rattle.model.specs.Rules.{Event, event}
 use Rattle.model.specs.Step.{newest}
-use Rattle.rules.specs.Guards.{nobody, issuedBy}
-use Rattle.rules.specs.Offers.{waitingFrom, nextIn}
-use Rattle.rules.proofs.Lookup.{part-none}
+use Rattle.machine_rules.specs.Guards.{nobody}
+use Rattle.machine_rules.specs.Offers.{waitingFrom, nextIn}
+use Rattle.machine_rules.proofs.Lookup.{part-none}
 use Rattle.machine_state.specs.State.{State}
 use Rattle.machine_state.specs.Packed.{memoryAt, keptAt, holderAt, drainedAt, issuedIn, drainedIn, stateIn}
 use Rattle.machine_state.proofs.Rows as rows
@@ -76,13 +76,13 @@ module _ (cells locations values marks : List ℕ) where
       after = stored.received-is cells locations values marks i (asks .own) (getD cells (memoryAt x) 0);
     }
 
-    pub write-carried : (v : ℕ) → v ≡ issuedBy (i .kind) (i .value) (getD cells (keptAt q) 0) (getD cells (registerOf i) 0)
+    pub write-carried : (v : ℕ) → v ≡ actsOf (i .kind) .issues (i .value) (getD cells (keptAt q) 0) (getD cells (registerOf i) 0)
         → CarriesOut m i 2 (event 2 q x v) (stateIn (exchanged cells (i .kind) q (registerOf i)) (set locations (nextPlace marks q) x) (set values (nextPlace marks q) v) (oneMoreIssued marks q))
     unfolding nextIn carriedOut stateIn
     write-carried v f = record {
       says =
           let low = stored.cell cells locations values marks i (asks .own) in
-          ap (event 2 q x) (f ∙ sym (λ j. issuedBy (i .kind) (i .value) (rows.kept-is cells q h j) (rows.register-is cells (registerOf i) low j)));
+          ap (event 2 q x) (f ∙ sym (λ j. actsOf (i .kind) .issues (i .value) (rows.kept-is cells q h j) (rows.register-is cells (registerOf i) low j)));
       after = stored.wrote-is cells locations values marks i (asks .own) (event 2 q x v);
     }
 

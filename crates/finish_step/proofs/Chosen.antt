@@ -20,10 +20,10 @@ use Rattle.model.specs.Finish.{mover, drainOrNext, finishingMove}
 use Rattle.model.proofs.Tests.{some-inj, none-some}
 use Rattle.model.proofs.Movers.{mover-moves, mover-busy}
 use Rattle.model.proofs.Finish.{Finisher, finisher}
-use Rattle.rules.specs.Steps.{stepKind}
-use Rattle.rules.specs.Programs.{fetched, Fetched}
-use Rattle.rules.specs.Guards.{permits}
-use Rattle.rules.specs.Offers.{oldestIn, offeredIn}
+use Rattle.machine_rules.specs.Steps.{stepKind}
+use Rattle.machine_rules.specs.Programs.{fetched, Fetched}
+use Rattle.machine_rules.specs.Guards.{permits}
+use Rattle.machine_rules.specs.Offers.{oldestIn, offeredIn}
 use Rattle.machine_state.specs.State.{State}
 use Rattle.machine.specs.View.{machineOf}
 use Rattle.machine.specs.Arrays.{isDry, nextOf, offeredOf}
@@ -66,13 +66,13 @@ module _ (g : Columns) (m : State) (u : HasMore g m) where
     either : (b : Bool) → cond b (nextMove M q (processor M q .todo)) (drainMove M q (processor M q .waiting)) ≡ offer g m i (offeredOf m i (cond b 0 3))
     unfolding offeredIn
     either true = next-offer g m ready i here h
-    either false = oldest-offer g m ready i own (here .kind)
+    either false = oldest-offer g m ready i own
 
     move-is : finishingMove M ≡ offer g m i offered
     unfolding finishingMove
     move-is =
         ap (λ (r : ℕ). drainOrNext M r (processor M r .waiting)) moves ∙ by-waiting M q (processor M q .waiting)
-        ∙ ap (λ (b : Bool). cond b (nextMove M q (processor M q .todo)) (drainMove M q (processor M q .waiting))) (empty-is g m ready i own (here .kind))
+        ∙ ap (λ (b : Bool). cond b (nextMove M q (processor M q .todo)) (drainMove M q (processor M q .waiting))) (empty-is g m ready i own)
         ∙ either (isDry m i)
 
     -- a move is offered

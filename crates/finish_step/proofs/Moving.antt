@@ -9,8 +9,8 @@ use Rattle.model.specs.Sizes.{processors, instructionsEach}
 use Rattle.model.specs.Rules.{Event}
 use Rattle.model.specs.Code.{Columns, countIn, instructionAt}
 use Rattle.model.specs.Kinds.{tableRows}
-use Rattle.rules.specs.Steps.{phases, stepKind}
-use Rattle.rules.specs.Programs.{Fetched}
+use Rattle.machine_rules.specs.Steps.{phases, stepKind}
+use Rattle.machine_rules.specs.Programs.{Fetched}
 use Rattle.machine_state.specs.State.{State}
 use Rattle.machine_state.specs.Packed.{standsAt, phaseAt, issuedAt, drainedAt, holderIn, atIn, issuedIn, drainedIn, countsIn, stateIn, columnsIn}
 use Rattle.machine_store.specs.Stores.{advanced, Onward}

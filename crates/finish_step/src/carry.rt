@@ -5,18 +5,18 @@ ghost use Rattle.model.specs.Rules.{event as eventAs};
 ghost use Rattle.model.specs.Sizes.{processors};
 ghost use Rattle.machine_state.specs.Packed.{stateIn};
 ghost use Rattle.finish_step.specs.Moves.{MayDrainOldest, DrainsOldest, MayCarryOut, CarriesOut};
+use machine_rules::guards;
+use machine_rules::guards::NOBODY;
+use machine_rules::program::DRAIN;
+use machine_rules::program::LOCAL;
+use machine_rules::program::LOCK;
+use machine_rules::program::READ;
+use machine_rules::program::UNLOCK;
+use machine_rules::program::WRITE;
 use machine_state::state::Machine;
 use model::record::Record;
 use model::table::Cells;
 use model::table::Program;
-use rules::guards;
-use rules::guards::NOBODY;
-use rules::program::DRAIN;
-use rules::program::LOCAL;
-use rules::program::LOCK;
-use rules::program::READ;
-use rules::program::UNLOCK;
-use rules::program::WRITE;
 
 fn event(kind: u8, p: usize, x: u8, v: u32) -> Record
     requires { ⌜ p < processors ⌝ }

@@ -3,11 +3,11 @@ ghost use Rattle.machine_state.specs.Packed.{stateIn, columnsIn};
 ghost use Rattle.finish_step.specs.Finishing.{HasMore, FinishesBy};
 use crate::carry;
 use finish_left::mover;
+use machine_rules::program;
 use machine_state::program as programs;
 use machine_state::state::Machine;
 use model::record::Record;
 use model::table::Program;
-use rules::program;
 
 // Takes the finishing step, and answers its event.
 pub fn finishing_step<'a>(

@@ -12,7 +12,7 @@ use Rattle.model.specs.Machine.{Processor, WaitingWrite, writeOf, idle, process
 use Rattle.model.specs.Rules.{Event}
 use Rattle.model.specs.Code.{Columns, placeAt, row, stepsFrom, countIn}
 use Rattle.model.proofs.Rows.{row-set, row-set-other, four-get, four-set}
-use Rattle.rules.specs.Offers.{writesIn}
+use Rattle.machine_rules.specs.Offers.{writesIn}
 use Rattle.machine.specs.View.{waitingIn, todoIn, processorOf, holderOf, machineOf}
 use Rattle.machine.specs.Stores.{isLast, nextAt, assignedIn, advancedIn, afterDrain, heldIn}
 use Rattle.machine.specs.Ready.{Own, Long}

@@ -13,7 +13,7 @@ use Rattle.model.specs.Reply.{registersIn, words}
 use Rattle.model.specs.Finish.{isDone, areDone, isFinished}
 use Rattle.model.specs.Code.{Columns, countIn}
 use Rattle.model.proofs.Rows.{rows-whole}
-use Rattle.machine_finished.specs.Finished.{doneAt, finishedIn}
+use Rattle.machine_state.specs.Finished.{doneAt, finishedIn}
 use Rattle.machine.specs.View.{todoIn, processorOf, machineOf}
 use Rattle.machine.specs.Ready.{ReadyAt, Ready}
 use Rattle.machine.proofs.Todo.{none-left, next-left}
@@ -40,7 +40,7 @@ module _ (g : Columns) (m : State) (ready : Ready g m) where
           let n = eqb-false a (countIn g p) e in
           let o = r .stands .at in
           let l : a < countIn g p = omega arith in
-          rw (next-left g p a (getD (m .phase) p 0) (ready .fits .each p a h l .high) l (r .stands .inside l))
+          rw (next-left g p a (getD (m .phase) p 0) (ready .fits .each p a h l .known) l (r .stands .inside l))
 
   pub done-is : (p : ℕ) → p < processors → isDone (processorOf g m p) ≡ done p
   unfolding isDone processorOf

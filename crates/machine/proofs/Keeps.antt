@@ -4,23 +4,23 @@ use mathlib.Core.Bool.{Bool, true, false, cond}
 use mathlib.Core.List.{List, _∷_}
 use Prim.Native.Nat.{ℕ, suc, _+_, _≤_, _<_}
 use native.Mathlib.Omega.{arith}
+use lib.Dec.{eqb}
 use lib.ListN.{getD, set}
 use lib.Seq.{getD-set-same, getD-set-other}
-use lib.Dec.{eqb, leb}
 use borrow.Author.Tests.{eqb-true, eqb-false}
 use Rattle.model.specs.declared.record.Record.{Record}
 use Rattle.model.specs.Program.{ProgramStep}
 use Rattle.model.specs.Sizes.{processors, locations}
 use Rattle.model.specs.Left.{writes}
-use Rattle.model.specs.Code.{Columns, instructionAt, countIn}
+use Rattle.model.specs.Code.{Columns, instructionAt, countIn, actsOf}
 use Rattle.model.proofs.Lists.{each}
 use Rattle.machine.specs.View.{todoIn}
-use Rattle.rules.specs.Steps.{stepKind, stepCount}
+use Rattle.machine_rules.specs.Steps.{stepKind, stepCount}
 use Rattle.machine.specs.Arrays.{nextOf}
-use Rattle.rules.specs.Offers.{nextIn}
+use Rattle.machine_rules.specs.Offers.{nextIn}
 use Rattle.machine.specs.Stores.{nextPlace, isLast, nextAt, nextPhase, advancedIn, assignedIn, heldIn, carriedOut}
 use Rattle.machine.specs.Ready.{Long, Stands, ReadyAt, Ready}
-use Rattle.rules.specs.Programs.{Fetched}
+use Rattle.machine_rules.specs.Programs.{Fetched}
 use Rattle.machine.proofs.Todo.{stepFor, by-kind, stands-next}
 use Rattle.machine.proofs.Changes.{at-next, at-other}
 use Rattle.machine.proofs.Sim.{is-instruction, rest, todo-next, goes-on}
@@ -77,8 +77,8 @@ module _ (g : Columns) (m : State) (ready : Ready g m) (i : Record) (here : Fetc
     unfolding carriedOut nextIn writes
     carries-read e =
         still _ refl refl refl
-        (stored-long m (ready .long) _ _ _ _ _ _ (either-long (eqb (i .kind) 5) _ _ 16 (set-long (m .registers) _ _ 16 (ready .long .registers)) (ready .long .registers))
-        (either-long (eqb (i .kind) 5) _ _ 4 (ready .long .kept) (set-long (m .kept) _ _ 4 (ready .long .kept)))
+        (stored-long m (ready .long) _ _ _ _ _ _ (either-long (actsOf (i .kind) .loads) _ _ 16 (set-long (m .registers) _ _ 16 (ready .long .registers)) (ready .long .registers))
+        (either-long (actsOf (i .kind) .loads) _ _ 4 (ready .long .kept) (set-long (m .kept) _ _ 4 (ready .long .kept)))
         (ready .long .logLocations) (ready .long .logValues) (ready .long .issued))
         refl refl (ap writes e)
 
@@ -92,7 +92,7 @@ module _ (g : Columns) (m : State) (ready : Ready g m) (i : Record) (here : Fetc
           phase = refl;
           drained = refl;
           long =
-              stored-long m (ready .long) _ _ _ _ _ _ (either-long (leb 8 (i .kind)) _ _ 16 (set-long (m .registers) _ _ 16 (ready .long .registers)) (ready .long .registers))
+              stored-long m (ready .long) _ _ _ _ _ _ (either-long (actsOf (i .kind) .exchanges) _ _ 16 (set-long (m .registers) _ _ 16 (ready .long .registers)) (ready .long .registers))
               (ready .long .kept) (set-long (m .locations) _ _ 64 (ready .long .logLocations)) (set-long (m .values) _ _ 64 (ready .long .logValues)) (set-long (m .issued) _ _ 4 (ready .long .issued));
           inLog = each 0 (λ k x. x < locations) (m .locations) (nextPlace (m .issued) p) (i .location) (ready .inLog) (here .location);
           others = λ q x. getD-set-other (m .issued) p q (n + 1) 0 x;

@@ -9,7 +9,7 @@ use Rattle.model.specs.Sizes.{processors}
 use Rattle.model.specs.Machine.{free, held}
 use Rattle.model.specs.Step.{notBlocked, isFree, holds}
 use Rattle.machine.specs.View.{holderOf}
-use Rattle.rules.specs.Guards.{notBlockedIn}
+use Rattle.machine_rules.specs.Guards.{notBlockedIn}
 
 pub not-blocked : (h p : ℕ) → notBlocked (holderOf h) p ≡ notBlockedIn h p
 unfolding notBlocked holderOf

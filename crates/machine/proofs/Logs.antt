@@ -13,10 +13,10 @@ use Rattle.model.specs.Sizes.{processors, instructionsEach}
 use Rattle.model.specs.Machine.{WaitingWrite, writeOf, drained}
 use Rattle.model.specs.Step.{isEmpty}
 use Rattle.model.proofs.Rows.{part-set-other}
-use Rattle.rules.specs.Offers.{writesIn}
+use Rattle.machine_rules.specs.Offers.{writesIn}
 use Rattle.machine.specs.View.{waitingIn}
 use Rattle.machine.specs.Ready.{Long}
-use Rattle.rules.proofs.Lookup.{part-none, part-some, part-more}
+use Rattle.machine_rules.proofs.Lookup.{part-none, part-some, part-more}
 use Rattle.machine_state.specs.State.{State, parts}
 use Rattle.machine.specs.Stores.{nextPlace}
 

@@ -6,12 +6,12 @@ use mathlib.Core.List.{List, [], _∷_, _++_}
 use Prim.Native.Nat.{ℕ, suc, _+_, _*_, _≤_, _<_}
 use native.Mathlib.Omega.{arith}
 use lib.ListN.{getD, set}
-use lib.Dec.{eqb, leb}
+use lib.Dec.{eqb}
 use borrow.Author.Tests.{eqb-true, eqb-false}
-use Rattle.model.specs.Code.{Columns, placeAt, registerOf}
+use Rattle.model.specs.Code.{Columns, placeAt, registerOf, actsOf}
 use Rattle.model.specs.declared.record.Record.{Record}
 use Rattle.model.specs.Sizes.{processors, registersEach, instructionsEach}
-use Rattle.model.specs.Program.{ProgramStep, write, into, aside, constant, register, swapped, added}
+use Rattle.model.specs.Program.{ProgramStep, write, into, aside}
 use Rattle.model.specs.Kinds.{tableRows}
 use Rattle.model.specs.Machine as model
 use Rattle.model.specs.Machine.{Processor, WaitingWrite, writeOf, free, held, processor, issued, exchanged, advanced, assigned, received, wrote, drained, withProcessor, withCell, withHolder}
@@ -20,13 +20,13 @@ use Rattle.model.specs.Step.{Move, move, drainMove, nextMove, newest, seen, isE
 use Rattle.model.specs.Left.{writes}
 use Rattle.model.proofs.Rows.{slice-get}
 use Rattle.machine.specs.View.{waitingIn, todoIn, processorOf, holderOf, machineOf}
-use Rattle.rules.specs.Steps.{stepKind, stepCount}
+use Rattle.machine_rules.specs.Steps.{stepKind, stepCount}
 use Rattle.machine.specs.Arrays.{isDry, oldestOf, nextOf}
-use Rattle.rules.specs.Offers.{oldestIn, nextIn}
-use Rattle.rules.specs.Guards.{notBlockedIn, permits, issuedBy}
+use Rattle.machine_rules.specs.Offers.{oldestIn, nextIn}
+use Rattle.machine_rules.specs.Guards.{notBlockedIn, permits}
 use Rattle.machine.specs.Stores.{advancedIn, afterDrain, assignedIn, heldIn, afterEvent}
 use Rattle.machine.specs.Ready.{Own, ReadyAt, Ready}
-use Rattle.machine.proofs.Todo.{targetOf, sourceOf, stepFor, issues, by-kind}
+use Rattle.machine.proofs.Todo.{targetOf, sourceOf, stepFor, issues, exchanges-is, by-kind}
 use Rattle.machine.proofs.Logs.{pushedIn, newerIn, none-waits, some-wait, waits-none}
 use Rattle.machine.proofs.Changes.{Changes, same-processors, then, processor-is, machine-is, withRegister, assigned-changes, asideIn, withKept, kept-changes, withWrite, pushed-changes, drained-changes, advanced-changes}
 use Rattle.machine.proofs.Locks.{not-blocked, is-free, holds-is, held-by}
@@ -36,7 +36,7 @@ use Rattle.machine_state.specs.State.{State, parts}
 abbrev pub offer : Columns → State → Record → Event → Option Move
 offer g m i e = cond (eqb (e .kind) 0) none (move e (permits (e .kind) (m .holder) (i .processor) (isDry m i)) (machineOf g (afterEvent m i e)))
 
-module _ (g : Columns) (m : State) (ready : Ready g m) (i : Record) (own : Own i) (high : i .kind < tableRows) where
+module _ (g : Columns) (m : State) (ready : Ready g m) (i : Record) (own : Own i) where
   abbrev p : ℕ
   p = i .processor
 
@@ -116,7 +116,7 @@ module _ (g : Columns) (m : State) (ready : Ready g m) (i : Record) (own : Own i
 
     read-is : (x v : ℕ) → withProcessor M p (received (processor M p) rest (targetOf i) v) ≡ machineOf g (afterEvent m i (R p x v))
     unfolding withProcessor machineOf afterEvent received assigned advanced
-    read-is x v = go (eqb (i .kind) 5)
+    read-is x v = go (actsOf (i .kind) .loads)
       where
         go : (b : Bool) → withProcessor M p (received (processor M p) rest (cond b (into (i .register)) aside) v)
             ≡ machineOf g (advancedIn (parts (cond b (set (m .registers) (registerOf i) v) (m .registers)) (m .memory) (cond b (m .kept) (set (m .kept) p v)) (m .at) (m .phase) (m .locations) (m .values) (m .issued) (m .drained) (m .holder) (m .free)) i)
@@ -132,16 +132,6 @@ module _ (g : Columns) (m : State) (ready : Ready g m) (i : Record) (own : Own i
       waiting = P .waiting ++ (w ∷ []);
     }
 
-    exchanged-is : (P : Processor) → exchanged P (sourceOf i) ≡ cond (leb 8 (i .kind)) (set (P .registers) (i .register) (P .kept)) (P .registers)
-    unfolding exchanged
-    exchanged-is P = go (leb 8 (i .kind)) (leb 10 (i .kind)) (eqb (i .kind) 3)
-      where
-        go : (b c e : Bool) → exchanged P (cond b (cond c (added (i .register)) (swapped (i .register))) (cond e (constant (i .value)) (register (i .register)))) ≡ cond b (set (P .registers) (i .register) (P .kept)) (P .registers)
-        go true true e = refl
-        go true false e = refl
-        go false c true = refl
-        go false c false = refl
-
     exchange-changes : (x v : ℕ) → Changes g m (pushedIn m p x v) p (withWrite g (writeOf x v))
         → Changes g m (assignedIn (pushedIn m p x v) i (getD (m .kept) p 0)) p (withExchange true (writeOf x v))
     unfolding processorOf assigned
@@ -151,8 +141,8 @@ module _ (g : Columns) (m : State) (ready : Ready g m) (i : Record) (own : Own i
     unfolding withProcessor machineOf afterEvent wrote advanced assigned
     wrote-is x v r e =
         ap (λ (P : Processor). withProcessor M p P)
-        (λ j. record { todo = rest; kept = processor M p .kept; registers = exchanged-is (processor M p) j; waiting = processor M p .waiting ++ (writeOf x (e j) ∷ []) })
-        ∙ go (leb 8 (i .kind))
+        (λ j. record { todo = rest; kept = processor M p .kept; registers = exchanges-is i (processor M p) j; waiting = processor M p .waiting ++ (writeOf x (e j) ∷ []) })
+        ∙ go (actsOf (i .kind) .exchanges)
       where
         bounds : (q : ℕ) → q < processors → (getD (m .drained) q 0 ≤ getD (m .issued) q 0) × (getD (m .issued) q 0 ≤ instructionsEach)
         bounds q h = let t = ready .each q h in let w = t .room in (t .order, omega arith)
@@ -198,12 +188,12 @@ module _ (g : Columns) (m : State) (ready : Ready g m) (i : Record) (own : Own i
         (λ j. move (R p x (seen-is j)) (not-blocked (m .holder) p j) (withProcessor M p (received (processor M p) rest (targetOf i) (seen-is j))))
         ∙ ap (move (R p x (newest (waitingIn m p) x (getD (m .memory) x 0))) (notBlockedIn (m .holder) p)) (read-is x (newest (waitingIn m p) x (getD (m .memory) x 0)))
 
-    issued-is : issued (processor M p) (sourceOf i) ≡ issuedBy (i .kind) (i .value) (getD (m .kept) p 0) (getD (m .registers) (registerOf i) 0)
+    issued-is : issued (processor M p) (sourceOf i) ≡ actsOf (i .kind) .issues (i .value) (getD (m .kept) p 0) (getD (m .registers) (registerOf i) 0)
     unfolding processorOf
     issued-is =
         let r = own .register in
-        ap (λ (P : Processor). issued P (sourceOf i)) processor-here ∙ issues i (processorOf g m p) high
-        ∙ ap (issuedBy (i .kind) (i .value) (getD (m .kept) p 0)) (slice-get (registersEach * p) (registersEach * p + registersEach) (i .register) (m .registers) (omega arith))
+        ap (λ (P : Processor). issued P (sourceOf i)) processor-here ∙ issues i (processorOf g m p)
+        ∙ ap (actsOf (i .kind) .issues (i .value) (getD (m .kept) p 0)) (slice-get (registersEach * p) (registersEach * p + registersEach) (i .register) (m .registers) (omega arith))
 
     offers-write : n < instructionsEach → Offers 2
     unfolding nextMove nextIn

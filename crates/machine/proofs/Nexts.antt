@@ -11,11 +11,11 @@ use Rattle.model.specs.declared.record.Record.{Record}
 use Rattle.model.specs.Fields.{Proper}
 use Rattle.model.specs.Kinds.{stepUses}
 use Rattle.model.specs.Rules.{Event, event}
-use Rattle.model.specs.Code.{instructionOf, taken, judged}
+use Rattle.model.specs.Code.{instructionOf, actsOf, taken, judged}
 use Rattle.model.specs.Step.{same, newest}
 use Rattle.model.proofs.Bools.{self}
-use Rattle.rules.specs.Guards.{nobody, permits, issuedBy}
-use Rattle.rules.specs.Offers.{waitingFrom, nextIn}
+use Rattle.machine_rules.specs.Guards.{nobody, permits}
+use Rattle.machine_rules.specs.Offers.{waitingFrom, nextIn}
 use Rattle.machine_state.specs.State.{State}
 use Rattle.machine_state.specs.Packed.{registersIn, memoryIn, keptIn, issuedAt, drainedAt, holderIn, issuedIn, drainedIn, stateIn}
 use Rattle.machine_state.proofs.Rows as rows
@@ -101,12 +101,12 @@ module _ (cells locations values marks : List ℕ) (i e : Record) (r : Attempt) 
     unfolding nextIn carriedOut stateIn
     write-next z cells' locations' values' marks' t =
         let c = cellOf i e in
-        let w = issuedBy (i .kind) (i .value) (getD (keptIn cells) p 0) (getD (registersIn cells) c 0) in
+        let w = actsOf (i .kind) .issues (i .value) (getD (keptIn cells) p 0) (getD (registersIn cells) c 0) in
         as-own _
         (record {
           says = tested 2 (i .location) w z refl
               (t .says
-              ∙ (λ j. judged (names e (i .location) (issuedBy (i .kind) (i .value) (sym (rows.kept-is cells p h) j) (sym (rows.register-is cells c (stored.cell cells locations values marks o has)) j))))
+              ∙ (λ j. judged (names e (i .location) (actsOf (i .kind) .issues (i .value) (sym (rows.kept-is cells p h) j) (sym (rows.register-is cells c (stored.cell cells locations values marks o has)) j))))
               ∙ ap judged (and-yes (names e (i .location) w)));
           after = stored-as _ _ (rw (t .cellsAfter, t .locationsAfter, t .valuesAfter, t .marksAfter) (go r _ _ _ _)) (stored.wrote-is cells locations values marks o has e ∙ rw z);
         })

@@ -19,10 +19,10 @@ use Rattle.model.specs.Rules.{Event, event}
 use Rattle.model.specs.Step.{move, took, turned, drainMove, nextMove, moveFor, judge, same, step}
 use Rattle.model.specs.Code.{Columns, instructionAt, countIn}
 use Rattle.machine.specs.View.{todoIn, processorOf, machineOf}
-use Rattle.rules.specs.Steps.{stepsOfKind, stepKind, stepCount}
-use Rattle.rules.specs.Programs.{fetched, Fetched}
-use Rattle.rules.specs.Guards.{permits}
-use Rattle.rules.specs.Offers.{nextIn, offeredIn}
+use Rattle.machine_rules.specs.Steps.{stepsOfKind, stepKind, stepCount}
+use Rattle.machine_rules.specs.Programs.{fetched, Fetched}
+use Rattle.machine_rules.specs.Guards.{permits}
+use Rattle.machine_rules.specs.Offers.{nextIn, offeredIn}
 use Rattle.machine.specs.Arrays.{oldestOf, nextOf, offeredOf, isDry}
 use Rattle.machine.specs.Stores.{isLast, advancedIn, afterEvent}
 use Rattle.machine.specs.Ready.{Own, ReadyAt, Ready}
@@ -112,7 +112,7 @@ module _ (g : Columns) (m : State) (ready : Ready g m) (i : Record) (here : Fetc
       go true e =
           let l = ltb-true a (countIn g p) e in
           ap (nextMove M p) (todo-next l)
-          ∙ offers g m ready i own (here .kind) (rest l) (goes-on l) (i .kind) f (here .kind) (rw (kind-is l) (at .stands .inside l)) (todo-next l)
+          ∙ offers g m ready i own (rest l) (goes-on l) (i .kind) f (here .kind) (rw (kind-is l) (at .stands .inside l)) (todo-next l)
       go false e = ap (nextMove M p) (past (ltb-false a (countIn g p) e)) ∙ none-offered (ltb-false a (countIn g p) e)
 
   -- ---- the step
@@ -134,7 +134,7 @@ module _ (g : Columns) (m : State) (ready : Ready g m) (i : Record) (here : Fetc
   move-is e q = (λ j. cond (eqb (e .kind) 3) (drainMove M (q j) (processor M (q j) .waiting)) (nextMove M (q j) (processor M (q j) .todo))) ∙ go (eqb (e .kind) 3)
     where
       go : (b : Bool) → cond b (drainMove M p (processor M p .waiting)) (nextMove M p (processor M p .todo)) ≡ offer g m i (cond b (oldestOf m i) (nextOf m i (stepKind (i .kind) f)))
-      go true = oldest-offer g m ready i own (here .kind)
+      go true = oldest-offer g m ready i own
       go false = next-offer
 
   pub step-is : (e : Event) → 0 < e .kind → e .processor ≡ p

@@ -10,10 +10,10 @@ use Rattle.model.specs.Sizes.{processors, instructionsEach}
 use Rattle.model.specs.Kinds.{tableRows}
 use Rattle.model.specs.Rules.{Event}
 use Rattle.model.specs.Code.{Columns, instructionAt, countIn}
-use Rattle.rules.specs.Guards.{nobody}
-use Rattle.rules.specs.Steps.{phases, stepKind}
-use Rattle.rules.specs.Programs.{fetched, Fetched}
-use Rattle.rules.proofs.Instructions.{fetched-is}
+use Rattle.machine_rules.specs.Guards.{nobody}
+use Rattle.machine_rules.specs.Steps.{phases, stepKind}
+use Rattle.machine_rules.specs.Programs.{fetched, Fetched}
+use Rattle.machine_rules.proofs.Instructions.{fetched-is}
 use Rattle.machine_state.specs.State.{State}
 use Rattle.machine_state.specs.Packed as packed
 use Rattle.machine_state.specs.Packed.{standsAt, phaseAt, issuedAt, drainedAt, stateIn, columnsIn}

@@ -13,7 +13,7 @@ use Rattle.model.proofs.Rows.{alike}
 use Rattle.machine.specs.View.{waitingIn, todoIn, processorOf, holderOf, machineOf}
 use Rattle.machine.specs.Arrays.{startIn}
 use Rattle.machine.specs.Ready.{Ready}
-use Rattle.rules.proofs.Lookup.{part-none}
+use Rattle.machine_rules.proofs.Lookup.{part-none}
 use Rattle.machine.proofs.Todo.{stands-first}
 
 module _ (g : Columns) (c : Cells) where

@@ -5,10 +5,9 @@ use mathlib.Core.List.{List}
 use Prim.Native.Nat.{ℕ, _+_, _<_}
 use native.Mathlib.Omega.{arith}
 use lib.ListN.{length, getD, set}
-use lib.Dec.{eqb, leb}
 use Rattle.model.specs.declared.record.Record.{Record}
 use Rattle.model.specs.Rules.{Event}
-use Rattle.model.specs.Code.{registerOf}
+use Rattle.model.specs.Code.{registerOf, actsOf}
 use Rattle.machine_state.specs.State.{State, parts}
 use Rattle.machine_state.specs.Packed.{memoryAt, keptAt, registersIn, memoryIn, keptIn, standsAt, phaseAt, issuedAt, drainedAt, holderIn, freeIn, atIn, phaseIn, issuedIn, drainedIn, stateIn}
 use Rattle.machine_state.proofs.Rows as r
@@ -40,7 +39,7 @@ module _ (cells locations values marks : List ℕ) where
 
     pub received-is : (v : ℕ) → stateIn (received cells (i .kind) (i .processor) (registerOf i) v) locations values marks ≡ theory.receivedIn m i v
     unfolding stateIn
-    received-is v = go (eqb (i .kind) 5)
+    received-is v = go (actsOf (i .kind) .loads)
       where
         go : (b : Bool) → stateIn (cond b (set cells (registerOf i) v) (set cells (keptAt (i .processor)) v)) locations values marks
             ≡ parts (cond b (set (registersIn cells) (registerOf i) v) (registersIn cells)) (memoryIn cells) (cond b (keptIn cells) (set (keptIn cells) (i .processor) v)) (atIn marks) (phaseIn marks) locations values (issuedIn marks) (drainedIn marks) (holderIn marks) (freeIn marks)
@@ -56,7 +55,7 @@ module _ (cells locations values marks : List ℕ) where
     wrote-is e =
         let p = i .processor in
         let k = r.issued-set marks (getD marks (issuedAt p) 0 + 1) p (o .processor) in
-        let c = go (leb 8 (i .kind)) in
+        let c = go (actsOf (i .kind) .exchanges) in
         (λ j. parts (c .0 j) (c .1 j) (c .2 j) (k .0 j) (k .1 j) (set locations (nextPlace marks p) (e .location)) (set values (nextPlace marks p) (e .value)) (k .2 j) (k .3 j) (k .4 j) (k .5 j))
         ∙ rw (r.issued-is marks p (o .processor), r.kept-is cells p (o .processor))
       where

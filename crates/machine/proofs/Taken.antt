@@ -15,12 +15,12 @@ use Rattle.model.specs.Rules.{Event, event}
 use Rattle.model.specs.Code.{Columns, countIn}
 use Rattle.model.proofs.Bools.{and-left, same-true}
 use Rattle.machine.specs.View.{todoIn}
-use Rattle.rules.specs.Steps.{stepsOfKind, stepKind}
+use Rattle.machine_rules.specs.Steps.{stepsOfKind, stepKind}
 use Rattle.machine.specs.Arrays.{oldestOf, nextOf, offeredOf}
-use Rattle.rules.specs.Offers.{nextIn, oldestIn, offeredIn}
+use Rattle.machine_rules.specs.Offers.{nextIn, oldestIn, offeredIn}
 use Rattle.machine.specs.Stores.{afterDrain, carriedOut, afterEvent}
 use Rattle.machine.specs.Ready.{ReadyAt, Ready}
-use Rattle.rules.specs.Programs.{Fetched}
+use Rattle.machine_rules.specs.Programs.{Fetched}
 use Rattle.machine.proofs.Todo.{stepFor, by-kind}
 use Rattle.machine.proofs.Sim.{is-instruction, is-none, rest, todo-next, allowed}
 use Rattle.machine.proofs.Lengths.{drained-long}

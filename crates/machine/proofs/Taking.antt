@@ -19,10 +19,10 @@ use Rattle.model.specs.Rules.{Event, event}
 use Rattle.model.specs.Code.{Columns, placeAt, instructionAt, countIn, taken, judged}
 use Rattle.model.specs.Step.{same}
 use Rattle.model.proofs.Bools.{false-true, and-left, same-true}
-use Rattle.rules.specs.Guards.{permits}
-use Rattle.rules.specs.Steps.{phases, stepsOfKind, stepKind}
-use Rattle.rules.specs.Programs.{fetched, Fetched}
-use Rattle.rules.specs.Offers.{oldestIn, offeredIn}
+use Rattle.machine_rules.specs.Guards.{permits}
+use Rattle.machine_rules.specs.Steps.{phases, stepsOfKind, stepKind}
+use Rattle.machine_rules.specs.Programs.{fetched, Fetched}
+use Rattle.machine_rules.specs.Offers.{oldestIn, offeredIn}
 use Rattle.machine_state.specs.State.{State}
 use Rattle.machine_state.specs.Packed.{memoryAt, standsAt, phaseAt, issuedAt, drainedAt, holderIn, countsIn, stateIn, columnsIn}
 use Rattle.machine_store.specs.Stores.{oneMoreDrained, advanced, Onward}

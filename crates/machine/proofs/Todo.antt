@@ -5,20 +5,24 @@ use mathlib.Core.List.{List, [], _∷_}
 use Prim.Native.Nat.{ℕ, suc, _+_, _-_, _≤_, _<_}
 use native.Mathlib.Numerals.{add-one}
 use native.Mathlib.Omega.{arith}
-use lib.ListN.{length, getD, drop}
+use lib.ListN.{length, getD, drop, set}
 use lib.Seq.{drop-nil}
-use lib.Dec.{eqb, leb, lit<}
+use lib.Dec.{eqb, lit<}
 use borrow.Author.Tests.{eqb-true, eqb-false}
 use Rattle.model.specs.declared.record.Record.{Record}
+use Rattle.model.specs.declared.kind.Role.{Role}
+use Rattle.model.specs.declared.kind.Role.the-variants.{Unknown, InitialMemory, InitialRegister, StoreConstant, StoreRegister, Load, SetRegister, Fence, Exchange, ExchangeAdd}
 use Rattle.model.specs.Program.{ProgramStep, read, write, fence, lock, unlock, local, Target, into, aside, Source, constant, register, swapped, added}
 use Rattle.model.specs.Sizes.{processors}
-use Rattle.model.specs.Kinds.{tableRows, entryOf}
-use Rattle.model.specs.Machine.{Processor, issued}
-use Rattle.model.specs.Code.{Columns, stepsIn, instructionAt, stepsFrom, countIn, Fits}
+use Rattle.model.specs.Kinds.{tableUses, tableRows, entryOf}
+use Rattle.model.specs.Machine.{Processor, issued, exchanged}
+use Rattle.model.specs.Reading.{isInstruction}
+use Rattle.model.specs.Code.{Columns, roleOf, acts, actsOf, stepsIn, instructionAt, stepsFrom, countIn, Fits}
+use Rattle.model.proofs.Bools.{false-true}
+use Rattle.model.proofs.Roles.{by-role, ofKind}
 use Rattle.model.proofs.Rows.{AllBelow, below}
 use Rattle.model.proofs.Columns.{stepsAt, entry-weight, next-phase, next-instruction}
-use Rattle.rules.specs.Guards.{issuedBy}
-use Rattle.rules.specs.Steps.{stepsOfKind, stepKind, stepCount}
+use Rattle.machine_rules.specs.Steps.{stepsOfKind, stepKind, stepCount}
 use Rattle.machine.specs.View.{leftFrom}
 use Rattle.machine.specs.Ready.{Stands}
 
@@ -26,12 +30,22 @@ use Rattle.machine.specs.Ready.{Stands}
 
 -- where a load's or an exchange's read goes, and what a write issues
 abbrev pub targetOf : Record → Target
-targetOf r = cond (eqb (r .kind) 5) (into (r .register)) aside
+targetOf r = cond (actsOf (r .kind) .loads) (into (r .register)) aside
+
+abbrev pub sourceAs : Role → Record → Source
+sourceAs Unknown r = register (r .register)
+sourceAs InitialMemory r = register (r .register)
+sourceAs InitialRegister r = register (r .register)
+sourceAs StoreConstant r = constant (r .value)
+sourceAs StoreRegister r = register (r .register)
+sourceAs Load r = register (r .register)
+sourceAs SetRegister r = register (r .register)
+sourceAs Fence r = register (r .register)
+sourceAs Exchange r = swapped (r .register)
+sourceAs ExchangeAdd r = added (r .register)
 
 abbrev pub sourceOf : Record → Source
-sourceOf r =
-    cond (leb 8 (r .kind)) (cond (leb 10 (r .kind)) (added (r .register)) (swapped (r .register)))
-    (cond (eqb (r .kind) 3) (constant (r .value)) (register (r .register)))
+sourceOf r = sourceAs (roleOf (r .kind)) r
 
 -- the program step of r that has kind n
 abbrev pub stepFor : Record → ℕ → ProgramStep
@@ -42,54 +56,54 @@ stepFor r n =
     fence
 
 module _ (r : Record) where
-  abbrev ofKind : ℕ → Record
-  ofKind k = record { kind = k; processor = r .processor; register = r .register; location = r .location; value = r .value }
-
   abbrev Counts : ℕ → Type 0
-  Counts k = length (stepsIn (entryOf (ofKind k))) ≡ stepCount k
+  Counts k = length (stepsIn (entryOf (ofKind r k))) ≡ stepCount k
 
   pub count-is : r .kind < tableRows → length (stepsIn (entryOf r)) ≡ stepCount (r .kind)
-  unfolding stepsIn stepCount
-  count-is h = below 12 Counts (refl, (refl, (refl, (refl, (refl, (refl, (refl, (refl, (refl, (refl, (refl, (refl, tt)))))))))))) (r .kind) h
+  unfolding stepsIn stepCount tableUses
+  count-is h = below tableRows Counts (refl, (refl, (refl, (refl, (refl, (refl, (refl, (refl, (refl, (refl, (refl, (refl, tt)))))))))))) (r .kind) h
 
   abbrev Next : ℕ → ℕ → Type 0
-  Next k f = getD (stepsIn (entryOf (ofKind k))) f fence ≡ stepFor (ofKind k) (stepKind k f)
+  Next k f = getD (stepsIn (entryOf (ofKind r k))) f fence ≡ stepFor (ofKind r k) (stepKind k f)
 
-  nexts : AllBelow 12 (λ k. AllBelow (stepCount k) (Next k))
-  unfolding stepsIn stepCount stepKind
+  nexts : AllBelow tableRows (λ k. AllBelow (stepCount k) (Next k))
+  unfolding stepsIn stepCount stepKind roleOf tableUses
   nexts =
       (tt, (tt, (tt, ((refl, tt), ((refl, tt), ((refl, tt), ((refl, tt), ((refl, tt), ((refl, (refl, tt)), ((refl, (refl, (refl, (refl, tt)))), ((refl, (refl, tt)), ((refl, (refl, (refl, (refl, tt)))), tt))))))))))))
 
   pub next-is : (f : ℕ) → r .kind < tableRows → f < stepCount (r .kind) → Next (r .kind) f
-  next-is f h l = below (stepCount (r .kind)) (Next (r .kind)) (below 12 (λ k. AllBelow (stepCount k) (Next k)) nexts (r .kind) h) f l
+  next-is f h l = below (stepCount (r .kind)) (Next (r .kind)) (below tableRows (λ k. AllBelow (stepCount k) (Next k)) nexts (r .kind) h) f l
+
+  some-steps : r .kind < tableRows → isInstruction (entryOf r) ≡ true → 0 < stepCount (r .kind)
+  unfolding stepCount stepsIn tableUses
+  some-steps h =
+      below tableRows (λ k. isInstruction (entryOf (ofKind r k)) ≡ true → 0 < stepCount k) (
+        false-true,
+        (false-true, (false-true, (λ e. lit< tt, (λ e. lit< tt, (λ e. lit< tt, (λ e. lit< tt, (λ e. lit< tt, (λ e. lit< tt, (λ e. lit< tt, (λ e. lit< tt, (λ e. lit< tt, tt))))))))))),
+      ) (r .kind) h
 
 -- what its write issues
 module _ (r : Record) (P : Processor) where
-  abbrev Issues : ℕ → Type 0
-  Issues k = issued P (sourceOf (ofKind r k)) ≡ issuedBy (ofKind r k .kind) (ofKind r k .value) (P .kept) (getD (P .registers) (r .register) 0)
-
-  pub issues : r .kind < tableRows → Issues (r .kind)
+  pub issues : issued P (sourceOf r) ≡ actsOf (r .kind) .issues (r .value) (P .kept) (getD (P .registers) (r .register) 0)
   unfolding issued
-  issues h = below 12 Issues (refl, (refl, (refl, (refl, (refl, (refl, (refl, (refl, (refl, (refl, (refl, (refl, tt)))))))))))) (r .kind) h
+  issues = by-role (λ o. issued P (sourceAs o r) ≡ acts o .issues (r .value) (P .kept) (getD (P .registers) (r .register) 0)) refl refl refl refl refl refl refl refl refl refl (roleOf (r .kind))
+
+  -- and the register after it
+  pub exchanges-is : exchanged P (sourceOf r) ≡ cond (actsOf (r .kind) .exchanges) (set (P .registers) (r .register) (P .kept)) (P .registers)
+  unfolding exchanged
+  exchanges-is =
+      by-role (λ o. exchanged P (sourceAs o r) ≡ cond (acts o .exchanges) (set (P .registers) (r .register) (P .kept)) (P .registers)) refl refl refl refl refl refl refl refl refl refl (roleOf (r .kind))
 
 few-steps : (k : ℕ) → stepCount k ≤ 4
 unfolding stepCount stepsOfKind
 few-steps k = entry-weight (entryOf (record { kind = k; processor = 0; register = 0; location = 0; value = 0 })) .0
 
-some-steps : (k : ℕ) → k < tableRows → 3 ≤ k → 0 < stepCount k
-unfolding stepCount stepsIn
-some-steps k h =
-    below 12 (λ k. 3 ≤ k → 0 < stepCount k) (
-      λ l. absurd (omega arith),
-      (λ l. absurd (omega arith), (λ l. absurd (omega arith), (λ l. lit< tt, (λ l. lit< tt, (λ l. lit< tt, (λ l. lit< tt, (λ l. lit< tt, (λ l. lit< tt, (λ l. lit< tt, (λ l. lit< tt, (λ l. lit< tt, tt))))))))))),
-    ) k h
-
 -- what holds for read, write, fence, lock, unlock and local holds for every program step's kind
 pub by-kind : (K : ℕ → Type 0) → K 1 → K 2 → K 4 → K 5 → K 6 → K 7 → (k f : ℕ) → k < tableRows → f < stepCount k → K (stepKind k f)
-unfolding stepCount stepKind stepsIn
+unfolding stepCount stepKind stepsIn tableUses
 by-kind K r w e l u n k f h o =
     below (stepCount k) (λ f. K (stepKind k f)) (
-    below 12 (λ k. AllBelow (stepCount k) (λ f. K (stepKind k f)))
+    below tableRows (λ k. AllBelow (stepCount k) (λ f. K (stepKind k f)))
     (tt, (tt, (tt, ((w, tt), ((w, tt), ((r, tt), ((n, tt), ((e, tt), ((r, (w, tt)), ((l, (r, (w, (u, tt)))), ((r, (w, tt)), ((l, (r, (w, (u, tt)))), tt)))))))))))) k h
     ) f o
 
@@ -130,7 +144,7 @@ pub stands-first : (g : Columns) (p a : ℕ) → Fits g → p < processors → a
 stands-first g p a fits h l = record {
   at = l;
   phase = lit< tt;
-  inside = λ o. let t = fits .each p a h o in some-steps (instructionAt g p a .kind) (t .high) (t .low);
+  inside = λ o. let t = fits .each p a h o in some-steps (instructionAt g p a) (t .known) (t .instruction);
 }
 
 -- past one step

@@ -9,8 +9,8 @@ use Rattle.model.specs.declared.record.Record.{Record}
 use Rattle.model.specs.declared.table.Cells.{Cells}
 use Rattle.model.specs.Sizes.{processors, instructionsEach}
 use Rattle.model.specs.Rules.{Event}
-use Rattle.rules.specs.Offers.{oldestIn, nextIn, offeredIn}
-use Rattle.rules.specs.Guards.{nobody}
+use Rattle.machine_rules.specs.Offers.{oldestIn, nextIn, offeredIn}
+use Rattle.machine_rules.specs.Guards.{nobody}
 use Rattle.machine_state.specs.State.{State, parts}
 
 -- nothing taken, nothing waiting, the lock free

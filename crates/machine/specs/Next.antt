@@ -13,7 +13,7 @@ use Rattle.model.specs.Kinds.{stepUses}
 use Rattle.model.specs.Rules.{Event}
 use Rattle.model.specs.Step.{same}
 use Rattle.model.specs.Code.{taken, judged}
-use Rattle.rules.specs.Guards.{permits}
+use Rattle.machine_rules.specs.Guards.{permits}
 use Rattle.machine_state.specs.State.{State}
 use Rattle.machine_store.specs.Stores.{Issuable}
 use Rattle.machine_take.specs.Takes.{LogOf}

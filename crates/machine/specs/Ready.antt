@@ -10,7 +10,7 @@ use Rattle.model.specs.Left.{writes}
 use Rattle.model.specs.Step.{step}
 use Rattle.model.specs.Code.{Columns, instructionAt, countIn, Fits, taken, steppedOf}
 use Rattle.model.specs.Rules.{Event}
-use Rattle.rules.specs.Steps.{phases, stepCount}
+use Rattle.machine_rules.specs.Steps.{phases, stepCount}
 use Rattle.machine.specs.View.{todoIn, machineOf}
 use Rattle.machine_state.specs.State.{State}
 

@@ -3,24 +3,24 @@ use mathlib.Core.Bool.{Bool, cond}
 use mathlib.Core.List.{List, [], _∷_}
 use Prim.Native.Nat.{ℕ, _+_}
 use lib.ListN.{getD, set}
-use lib.Dec.{eqb, leb}
-use Rattle.model.specs.Code.{placeAt, registerOf}
+use lib.Dec.{eqb}
+use Rattle.model.specs.Code.{placeAt, registerOf, actsOf}
 use Rattle.model.specs.declared.record.Record.{Record}
 use Rattle.model.specs.Rules.{Event}
-use Rattle.rules.specs.Guards.{nobody}
-use Rattle.rules.specs.Steps.{stepCount}
+use Rattle.machine_rules.specs.Guards.{nobody}
+use Rattle.machine_rules.specs.Steps.{stepCount}
 use Rattle.machine_state.specs.State.{State, parts}
 
 -- ---- list by list: `kind` is that of the instruction that processor p stands at, c the place of its register among all
 
 abbrev pub receivedRegisters : List ℕ → ℕ → ℕ → ℕ → List ℕ
-receivedRegisters registers kind c v = cond (eqb kind 5) (set registers c v) registers
+receivedRegisters registers kind c v = cond (actsOf kind .loads) (set registers c v) registers
 
 abbrev pub receivedKept : List ℕ → ℕ → ℕ → ℕ → List ℕ
-receivedKept kept kind p v = cond (eqb kind 5) kept (set kept p v)
+receivedKept kept kind p v = cond (actsOf kind .loads) kept (set kept p v)
 
 abbrev pub exchangedRegisters : List ℕ → List ℕ → ℕ → ℕ → ℕ → List ℕ
-exchangedRegisters registers kept kind p c = cond (leb 8 kind) (set registers c (getD kept p 0)) registers
+exchangedRegisters registers kept kind p c = cond (actsOf kind .exchanges) (set registers c (getD kept p 0)) registers
 
 abbrev pub nextPlace : List ℕ → ℕ → ℕ
 nextPlace issued p = placeAt p (getD issued p 0)

@@ -9,8 +9,8 @@ use Rattle.model.specs.Program.{ProgramStep}
 use Rattle.model.specs.Machine as model
 use Rattle.model.specs.Machine.{WaitingWrite, Processor, Holder, free, held}
 use Rattle.model.specs.Code.{Columns, row, four, stepsFrom, countIn}
-use Rattle.rules.specs.Guards.{nobody}
-use Rattle.rules.specs.Offers.{writesIn, waitingFrom}
+use Rattle.machine_rules.specs.Guards.{nobody}
+use Rattle.machine_rules.specs.Offers.{writesIn, waitingFrom}
 use Rattle.machine_state.specs.State.{State}
 
 -- the writes of processor p that wait, oldest first

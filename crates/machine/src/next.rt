@@ -1,15 +1,15 @@
 // The next program step of a processor.
 ghost use Rattle.machine_state.specs.Packed.{stateIn};
 ghost use Rattle.machine.specs.Next.{MayTake, TakesNext};
+use machine_rules::program::FENCE;
+use machine_rules::program::LOCK;
+use machine_rules::program::READ;
+use machine_rules::program::UNLOCK;
+use machine_rules::program::WRITE;
 use machine_state::state::Machine;
 use model::answer::Attempt;
 use model::record::Record;
 use model::table::Program;
-use rules::program::FENCE;
-use rules::program::LOCK;
-use rules::program::READ;
-use rules::program::UNLOCK;
-use rules::program::WRITE;
 
 // Attempts the step e before the program goes on. Its processor stands at the instruction i.
 pub fn take_next<'a>(

@@ -4,14 +4,14 @@ ghost use Rattle.model.specs.Kinds.{stepUses};
 ghost use Rattle.machine_state.specs.Packed.{stateIn, columnsIn};
 ghost use Rattle.machine.specs.Ready.{Ready, Steps};
 use crate::next;
+use machine_rules::program;
+use machine_rules::program::DRAIN;
 use machine_state::program as programs;
 use machine_state::state::Machine;
 use model::answer::Attempt;
 use model::answer::Refusal;
 use model::record::Record;
 use model::table::Program;
-use rules::program;
-use rules::program::DRAIN;
 
 // Attempts the step e. If it is turned down, nothing changes. The arrays come as they stand in Program and Machine.
 pub fn step<'a>(

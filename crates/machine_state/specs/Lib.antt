@@ -1,2 +1,3 @@
 pub mod State
 pub mod Packed
+pub mod Finished

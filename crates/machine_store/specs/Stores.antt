@@ -3,18 +3,18 @@ use mathlib.Core.Bool.{Bool, cond}
 use mathlib.Core.List.{List}
 use Prim.Native.Nat.{ℕ, _+_, _≤_, _<_}
 use lib.ListN.{getD, set}
-use lib.Dec.{eqb, leb}
-use Rattle.model.specs.Code.{placeAt}
+use lib.Dec.{eqb}
+use Rattle.model.specs.Code.{placeAt, actsOf}
 use Rattle.model.specs.Kinds.{tableRows}
 use Rattle.model.specs.Sizes.{processors, locations, instructionsEach}
-use Rattle.rules.specs.Steps.{phases, stepCount}
+use Rattle.machine_rules.specs.Steps.{phases, stepCount}
 use Rattle.machine_state.specs.Packed.{keptAt, standsAt, phaseAt, issuedAt, drainedAt}
 
 abbrev pub received : List ℕ → ℕ → ℕ → ℕ → ℕ → List ℕ
-received cells kind p c v = cond (eqb kind 5) (set cells c v) (set cells (keptAt p) v)
+received cells kind p c v = cond (actsOf kind .loads) (set cells c v) (set cells (keptAt p) v)
 
 abbrev pub exchanged : List ℕ → ℕ → ℕ → ℕ → List ℕ
-exchanged cells kind p c = cond (leb 8 kind) (set cells c (getD cells (keptAt p) 0)) cells
+exchanged cells kind p c = cond (actsOf kind .exchanges) (set cells c (getD cells (keptAt p) 0)) cells
 
 abbrev pub nextPlace : List ℕ → ℕ → ℕ
 nextPlace marks p = placeAt p (getD marks (issuedAt p) 0)

@@ -5,21 +5,20 @@ ghost use lib.ListN.{set};
 ghost use Rattle.model.specs.Sizes.{processors, registersEach};
 ghost use Rattle.machine_state.specs.Packed.{memoryAt};
 ghost use Rattle.machine_store.specs.Stores.{received, exchanged, nextPlace, oneMoreIssued, oneMoreDrained, advanced, Issuable, Drainable, Onward};
+use machine_rules::program;
 use machine_state::state::Machine;
+use model::kind::Role;
+use model::kind::role_of;
 use model::table::Program;
-use rules::program;
-use rules::program::EXCHANGE;
-use rules::program::LOAD;
 
 // A load's read goes into the register, an exchange's is kept aside.
 pub fn receive(cells: &mut [u32; Machine::CELLS], kind: u8, p: usize, c: usize, v: u32)
     requires { ⌜ (p < processors) × (c < processors * registersEach) ⌝ }
     ensures { λ _. ⌜ now (cells .exit) ≡ received (now (cells .entry)) kind p c v ⌝ }
 {
-    if kind == LOAD {
-        cells[c] = v;
-    } else {
-        cells[Machine::KEPT + p] = v;
+    match role_of(kind) {
+        Role::Load => cells[c] = v,
+        _ => cells[Machine::KEPT + p] = v,
     }
 }
 
@@ -28,8 +27,9 @@ pub fn exchange(cells: &mut [u32; Machine::CELLS], kind: u8, p: usize, c: usize)
     requires { ⌜ (p < processors) × (c < processors * registersEach) ⌝ }
     ensures { λ _. ⌜ now (cells .exit) ≡ exchanged (now (cells .entry)) kind p c ⌝ }
 {
-    if EXCHANGE <= kind {
-        cells[c] = cells[Machine::KEPT + p];
+    match role_of(kind) {
+        Role::Exchange | Role::ExchangeAdd => cells[c] = cells[Machine::KEPT + p],
+        _ => {}
     }
 }
 

@@ -8,13 +8,13 @@ use lib.ListN.{getD, set}
 use lib.Dec.{eqb}
 use Rattle.model.specs.declared.answer.Attempt.{Attempt}
 use Rattle.model.specs.declared.answer.Attempt.the-variants.{Taken}
-use Rattle.model.specs.Code.{placeAt, taken, judged}
+use Rattle.model.specs.Code.{placeAt, actsOf, taken, judged}
 use Rattle.model.specs.declared.record.Record.{Record}
 use Rattle.model.specs.Sizes as sizes
 use Rattle.model.specs.Sizes.{processors, registersEach}
 use Rattle.model.specs.Step.{newest}
-use Rattle.rules.specs.Guards.{permits, issuedBy}
-use Rattle.rules.specs.Offers.{waitingFrom, Log}
+use Rattle.machine_rules.specs.Guards.{permits}
+use Rattle.machine_rules.specs.Offers.{waitingFrom, Log}
 use Rattle.machine_state.specs.Packed.{memoryAt, keptAt, issuedAt, drainedAt, holderAt, holderIn}
 use Rattle.machine_store.specs.Stores.{received, exchanged, nextPlace, oneMoreIssued, oneMoreDrained, Issuable}
 
@@ -77,7 +77,7 @@ pub record MayRead (locations values marks : List ℕ) (i e : Record) : Type 0 w
 -- ---- write
 
 abbrev pub writeAllowed : List ℕ → Record → Record → Bool
-writeAllowed cells i e = names e (i .location) (issuedBy (i .kind) (i .value) (getD cells (keptAt (e .processor)) 0) (getD cells (cellOf i e) 0))
+writeAllowed cells i e = names e (i .location) (actsOf (i .kind) .issues (i .value) (getD cells (keptAt (e .processor)) 0) (getD cells (cellOf i e) 0))
 
 pub record Writes (cells locations values marks : List ℕ) (i e : Record) (r : Attempt) (cells' locations' values' marks' : List ℕ) : Type 0 where
   pub says : r ≡ judged (writeAllowed cells i e)

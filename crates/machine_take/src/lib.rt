@@ -3,22 +3,22 @@ ghost use mathlib.Core.Path.{_≡_};
 ghost use Prim.Native.Nat.{_<_};
 ghost use Rattle.model.specs.Code.{judged};
 ghost use Rattle.model.specs.Sizes.{processors};
-ghost use Rattle.rules.specs.Guards.{nobody};
+ghost use Rattle.machine_rules.specs.Guards.{nobody};
 ghost use Rattle.machine_take.specs.Takes.{allows, MayDrain, Drains, MayRead, Reads, MayWrite, Writes, Holds, HasRegister, Assigns};
+use machine_rules::guards;
+use machine_rules::guards::NOBODY;
+use machine_rules::program::DRAIN;
+use machine_rules::program::FENCE;
+use machine_rules::program::LOCK;
+use machine_rules::program::READ;
+use machine_rules::program::UNLOCK;
+use machine_rules::waiting;
 use machine_state::state::Machine;
 use model::answer::Attempt;
 use model::answer::Refusal;
 use model::record::Record;
 use model::table::Cells;
 use model::table::Program;
-use rules::guards;
-use rules::guards::NOBODY;
-use rules::program::DRAIN;
-use rules::program::FENCE;
-use rules::program::LOCK;
-use rules::program::READ;
-use rules::program::UNLOCK;
-use rules::waiting;
 
 // The drain of the oldest of the processor's writes.
 pub fn drain<'a>(

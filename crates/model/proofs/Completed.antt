@@ -1,45 +1,91 @@
--- What finishing writes, behind the trace, checks as finished: demand 3 on the bytes.
-use mathlib.Core.Path.{_≡_, ap, _∙_}
+-- What is promised of the reply to a finish: its number under its condition, the room that was lent, and demand 3.
+use mathlib.Core.Path.{_≡_, refl, sym, ap, _∙_, subst}
 use mathlib.Core.List.{List, _++_}
-use Prim.Native.Nat.{ℕ, _≤_}
+use Prim.Native.Nat.{ℕ, _*_, _≤_}
 use native.Mathlib.Omega.{arith}
 use lib.ListN.{length, drop, length-append}
-use Rattle.model.specs.Sizes.{resultWords}
+use lib.Seq.{take-at}
+use Rattle.model.specs.Sizes.{resultWords, recordSize}
 use Rattle.model.specs.Record.{records, fileOf}
-use Rattle.model.specs.Fields.{Proper}
-use Rattle.model.specs.Kinds.{Entry, stepUses}
+use Rattle.model.specs.Kinds.{Entry}
 use Rattle.model.specs.Table.{Whole, Readable, start}
 use Rattle.model.specs.Machine.{Machine}
 use Rattle.model.specs.Rules.{Event, Run}
 use Rattle.model.specs.Left.{left}
 use Rattle.model.specs.Finish.{completion}
-use Rattle.model.specs.Reply.{done, words}
-use Rattle.model.specs.Calls.{checked}
-use Rattle.model.specs.Numbers.{AllProper}
-use Rattle.model.specs.Promises.{Bytes}
-use Rattle.model.proofs.Lists.{all-append}
+use Rattle.model.specs.Reply.{Reply, done, words}
+use Rattle.model.specs.Calls.{checked, completed}
+use Rattle.model.specs.Numbers.{Follows, Finishes}
+use Rattle.model.specs.Promises.{Bytes, Lent, Completes, Added, stepsIn, Demand3, FinishMeets}
 use Rattle.model.proofs.Runs.{run-append, finished-length}
 use Rattle.model.proofs.Words.{file-length}
-use Rattle.model.proofs.Bytes.{records-append, records-file}
-use Rattle.model.proofs.Finish.{completion-completes}
-use Rattle.model.proofs.Proper.{later-proper}
-use Rattle.model.proofs.Demands.{accepted-reply}
+use Rattle.model.proofs.Bytes.{length-records, records-append, records-file}
+use Rattle.model.proofs.Finish.{completion-runs, completion-completes}
+use Rattle.model.proofs.Proper.{later-small}
+use Rattle.model.proofs.Replies.{completed-exactly}
+use Rattle.model.proofs.Rooms.{completion-length, finish-lends}
+use Rattle.model.proofs.Demands.{check-meets}
 
-whole-append : (trace : List ℕ) (es : List Event) → Whole trace → Whole (trace ++ fileOf es)
-whole-append trace es w = simp length-append (omega (arith, file-length es))
+-- the completion of a run, behind it
+pub completes-run : (entries : List Entry) (es : List Event) (s : Machine) → Run (start entries) es s → Completes (start entries) (left (start entries)) (es ++ completion s)
+completes-run entries es s r =
+    let c = completion-completes entries es s r in
+    let run : Run (start entries) (es ++ completion s) (c .end) = run-append es (completion s) (start entries) s (c .end) r (c .run) in
+    record { steps = finished-length (es ++ completion s) (start entries) (c .end) run (c .finished); end = c .end; run = run; finished = c .finished }
 
-pub completed-checks : (table trace room : List ℕ) (entries : List Entry) → Bytes table → Readable table entries → Whole trace → AllProper (records trace) → resultWords ≤ length room
-    → (s : Machine) → Run (start entries) (records trace) s
-    → (u : Machine) × (checked table (trace ++ fileOf (completion s)) room ≡ done (left (start entries)) (words u ++ drop resultWords room))
-completed-checks table trace room entries bytes readable whole proper l s r =
-    let es : List Event = completion s in
-    let file : List ℕ = trace ++ fileOf es in
-    let c = completion-completes entries (records trace) s r in
-    let q = later-proper table entries bytes readable (records trace) es s (c .end) r (c .run) in
-    let read : records file ≡ records trace ++ es = records-append trace (fileOf es) whole ∙ ap (λ (fs : List Event). records trace ++ fs) (records-file es (q .1)) in
-    let run : Run (start entries) (records file) (c .end) = rw read (run-append (records trace) es (start entries) s (c .end) r (c .run)) in
-    let all : AllProper (records file) = rw read (all-append (Proper stepUses) (records trace) es proper (q .0)) in (
-      c .end,
-      accepted-reply table file room entries readable (whole-append trace es whole) all l (c .end) run (c .finished)
-          ∙ ap (λ (k : ℕ). done k (words (c .end) ++ drop resultWords room)) (finished-length (records file) (start entries) (c .end) run (c .finished)),
-    )
+-- steps that complete the run of a trace check as finished behind it
+checks-behind : (table trace steps lent : List ℕ) (entries : List Entry) (k : ℕ) → Readable table entries → Whole trace → Whole steps
+    → (c : Completes (start entries) k (records trace ++ records steps)) → resultWords ≤ length lent
+    → checked table (trace ++ steps) lent ≡ done k (words (c .end) ++ drop resultWords lent)
+checks-behind table trace steps lent entries k readable whole wholes c l =
+    let read : records (trace ++ steps) ≡ records trace ++ records steps = records-append trace steps whole in
+    let both : Whole (trace ++ steps) = simp length-append (omega arith) in
+    check-meets table (trace ++ steps) lent _ refl .demand2 entries readable both .reports l (c .end) (rw read (c .run)) (c .finished)
+    ∙ ap (λ (n : ℕ). done n (words (c .end) ++ drop resultWords lent)) (ap (λ (es : List Event). length es) read ∙ c .steps)
+
+module _ (table trace room : List ℕ) (r : Reply) (e : r ≡ completed table trace room) where
+  gives : (q : Reply) → Finishes table trace room q → r ≡ q
+  gives q c = e ∙ completed-exactly table trace room q .1 c
+
+  module _ (entries : List Entry) (readable : Readable table entries) (whole : Whole trace) (s : Machine) (run : Run (start entries) (records trace) s) where
+    follows : Follows table trace (records trace) s
+    follows = record { entries = entries; readable = readable; whole = whole; run = run }
+
+    module _ (l : recordSize * left s ≤ length room) where
+      writes : r ≡ done (left s) (fileOf (completion s) ++ drop (recordSize * left s) room)
+      writes = let f = completion-runs entries (records trace) s run in gives _ (Finishes.completed (completion s) (f .0) follows (f .1) l)
+
+      steps-are : stepsIn r ≡ fileOf (completion s)
+      steps-are = ap stepsIn writes ∙ take-at (fileOf (completion s)) (drop (recordSize * left s) room) (recordSize * left s) (completion-length entries (records trace) s run)
+
+      steps-whole : Whole (stepsIn r)
+      steps-whole = rw steps-are (omega (arith, file-length (completion s)))
+
+      steps-count : length (records (stepsIn r)) ≡ left s
+      steps-count =
+          length-records (stepsIn r)
+          ∙ (let long : length (stepsIn r) ≡ recordSize * left s = ap (λ (b : List ℕ). length b) steps-are ∙ completion-length entries (records trace) s run in omega arith)
+
+      steps-complete : Bytes table → Completes (start entries) (left (start entries)) (records trace ++ records (stepsIn r))
+      steps-complete bytes =
+          let c = completion-completes entries (records trace) s run in
+          let back : records (stepsIn r) ≡ completion s = ap records steps-are ∙ records-file (completion s) (later-small table entries bytes readable (records trace) (completion s) s (c .end) run (c .run)) in
+          subst (λ (es : List Event). Completes (start entries) (left (start entries)) (records trace ++ es)) (sym back) (completes-run entries (records trace) s run)
+
+      adds : Added table trace entries (left s) (stepsIn r)
+      adds = record {
+        whole = steps-whole;
+        count = steps-count;
+        completes = steps-complete;
+        checks = λ bytes lent. checks-behind table trace (stepsIn r) lent entries (left (start entries)) readable whole steps-whole (steps-complete bytes);
+      }
+
+    demand3 : Demand3 table trace room entries s r
+    demand3 = record { needs = λ l. gives _ (Finishes.tooSmall follows l); writes = writes; adds = adds }
+
+  pub finish-meets : FinishMeets table trace room r
+  finish-meets = record {
+    stated = completed-exactly table trace room r .0 (sym e);
+    lent = subst (Lent room) (sym e) (finish-lends table trace room);
+    demand3 = demand3;
+  }

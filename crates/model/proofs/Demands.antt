@@ -1,123 +1,112 @@
--- Demands 2 and 3 on the replies, for a readable table and a trace of whole records that give no 9 and no 10.
-use mathlib.Core.Path.{_≡_, refl, sym, ap, _∙_, subst}
-use mathlib.Core.Logic.{_↔_}
-use mathlib.Core.List.{List, [], _∷_, _++_}
-use Prim.Native.Nat.{ℕ, _*_, _≤_}
+-- What is promised of the reply to a check: its number under its condition, the room that was lent, and demand 2.
+use mathlib.Core.Path.{_≡_, sym, ap, _∙_, subst}
+use mathlib.Core.List.{List, _∷_, _++_}
+use Prim.Native.Nat.{ℕ, _≤_}
 use native.Mathlib.Omega.{arith}
-use lib.ListN.{length, drop, length-append}
-use Rattle.model.specs.Sizes.{resultWords, recordSize}
-use Rattle.model.specs.Record.{records, fileOf}
-use Rattle.model.specs.Fields.{Proper}
-use Rattle.model.specs.Kinds.{Entry, stepUses}
+use lib.ListN.{length, drop}
+use Rattle.model.specs.Sizes.{resultWords}
+use Rattle.model.specs.Record.{records}
+use Rattle.model.specs.Kinds.{Entry}
 use Rattle.model.specs.Table.{Whole, Readable, start}
 use Rattle.model.specs.Machine.{Machine}
 use Rattle.model.specs.Rules.{Event, Run}
-use Rattle.model.specs.Left.{left, Finished}
-use Rattle.model.specs.Finish.{completion}
+use Rattle.model.specs.Left.{Finished}
 use Rattle.model.specs.Reply.{Reply, done, refuse, words}
-use Rattle.model.specs.Calls.{checked, completed}
-use Rattle.model.specs.Numbers.{Turns, AllProper, Follows, Stops, tableLength, tableRecord, traceLength, traceRecord, Checks, Finishes}
-use Rattle.model.specs.Promises.{Completes, TurnedAt}
+use Rattle.model.specs.Calls.{checked}
+use Rattle.model.specs.Numbers.{Turns, Follows, Stops, tableLength, tableRecord, traceLength, traceRecord, Checks}
+use Rattle.model.specs.Promises.{Lent, TurnedAt, Demand2, CheckMeets}
 use Rattle.model.proofs.Tests.{passed-inj}
-use Rattle.model.proofs.Runs.{run-append, run-left}
-use Rattle.model.proofs.Finish.{completion-runs, completion-completes}
 use Rattle.model.proofs.Reading.{readable-exactly}
 use Rattle.model.proofs.Given.{table-number, stops-number}
-use Rattle.model.proofs.Replies.{checked-exactly, completed-exactly}
+use Rattle.model.proofs.Replies.{checked-exactly}
+use Rattle.model.proofs.Rooms.{check-lends}
 
 -- a table has its entries once
 one-reading : (table : List ℕ) (es fs : List Entry) → Readable table es → Readable table fs → es ≡ fs
 one-reading table es fs r q = passed-inj (sym (readable-exactly table es .1 r) ∙ readable-exactly table fs .1 q)
 
-proper-split : (before : List Event) (e : Event) (after : List Event) → AllProper (before ++ e ∷ after) → AllProper before × Proper stepUses e
-proper-split [] e after w = (tt, w .0)
-proper-split (d ∷ before) e after w = let s = proper-split before e after (w .1) in ((w .0, s .0), s .1)
-
 module _ (table trace room : List ℕ) (entries : List Entry) (readable : Readable table entries) where
   -- the run of a trace that is followed is one from these entries' start
-  ours : (steps : List Event) (s : Machine) (f : Follows table trace steps s) → Run (start entries) steps s
-  ours steps s f = subst (λ (es : List Entry). Run (start es) steps s) (one-reading table (f .entries) entries (f .readable) readable) (f .run)
+  ours : (events : List Event) (s : Machine) → Follows table trace events s → Run (start entries) events s
+  ours events s f = subst (λ (es : List Entry). Run (start es) events s) (one-reading table (f .entries) entries (f .readable) readable) (f .run)
 
-  module _ (whole : Whole trace) (proper : AllProper (records trace)) where
-    follows : (s : Machine) → Run (start entries) (records trace) s → Follows table trace (records trace) s
-    follows s r = record { entries = entries; readable = readable; whole = whole; proper = proper; run = r }
+  -- ---- what 0, 12 and 11 say
 
-    -- number 0, with the 24 words of the machine that the trace leads to
-    pub accepted-reply : resultWords ≤ length room → (s : Machine) → Run (start entries) (records trace) s → Finished s
-        → checked table trace room ≡ done (length (records trace)) (words s ++ drop resultWords room)
-    accepted-reply l s r d = checked-exactly table trace room _ .1 (Checks.finished (follows s r) d l)
+  accepted : (q : Reply) → Checks table trace room q → q .number ≡ 0 → (s : Machine) × Run (start entries) (records trace) s × Finished s
+  accepted q (Checks.stopped {n} {i} s) h = absurd (omega (arith, stops-number table trace n i s))
+  accepted q (Checks.unfinished f u) h = absurd (omega arith)
+  accepted q (Checks.tooSmall f d m) h = absurd (omega arith)
+  accepted q (Checks.finished {s} f d m) h = (s, ours (records trace) s f, d)
 
-    pub accepted-exactly : resultWords ≤ length room → (checked table trace room .number ≡ 0) ↔ ((s : Machine) × Run (start entries) (records trace) s × Finished s)
-    accepted-exactly l = (go (checked table trace room) (checked-exactly table trace room _ .0 refl), λ r. ap (λ (a : Reply). a .number) (accepted-reply l (r .0) (r .1) (r .2)))
-      where
-        go : (r : Reply) → Checks table trace room r → r .number ≡ 0 → (s : Machine) × Run (start entries) (records trace) s × Finished s
-        go r (Checks.stopped {n} {i} s) h = absurd (omega (arith, stops-number table trace n i s))
-        go r (Checks.unfinished f u) h = absurd (omega arith)
-        go r (Checks.tooSmall f d m) h = absurd (omega arith)
-        go r (Checks.finished {s} f d m) h = (s, ours (records trace) s f, d)
+  module _ (i : ℕ) where
+    ends : (q : Reply) → Checks table trace room q → q .number ≡ 12 → q .place ≡ i → (s : Machine) × Run (start entries) (records trace) s × ¬ Finished s × (length (records trace) ≡ i)
+    ends q (Checks.stopped {n} {i = j} s) h k = absurd (omega (arith, stops-number table trace n j s))
+    ends q (Checks.unfinished {s} f u) h k = (s, ours (records trace) s f, u, k)
+    ends q (Checks.tooSmall f d m) h k = absurd (omega arith)
+    ends q (Checks.finished f d m) h k = absurd (omega arith)
 
-    -- number 11 at i
-    pub turned-at-exactly : (i : ℕ) → ((checked table trace room .number ≡ 11) × (checked table trace room .place ≡ i)) ↔ TurnedAt entries (records trace) i
-    turned-at-exactly i = (λ h. go (checked table trace room) (checked-exactly table trace room _ .0 refl) (h .0) (h .1), back)
-      where
-        turn : (before : List Event) (s : Machine) (e : Event) (n : ℕ) → Follows table trace before s → (after : List Event) → records trace ≡ before ++ e ∷ after → length before ≡ i
-            → Turns s e n → n ≡ 11 → TurnedAt entries (records trace) i
-        turn before s e n f after b k (Turns.kindUnknown u) h = absurd (omega arith)
-        turn before s e n f after b k (Turns.wrongField u w) h = absurd (omega arith)
-        turn before s e n f after b k (Turns.notAllowed p never) h = record {
-          before = before;
-          event = e;
-          after = after;
-          split = b;
-          steps = k;
-          s = s;
-          run = ours before s f;
-          never = never;
-        }
+    turned-by : (before : List Event) (s : Machine) (e : Event) (n : ℕ) → Follows table trace before s → (after : List Event) → records trace ≡ before ++ e ∷ after
+        → Turns s e n → n ≡ 11 → length before ≡ i → TurnedAt entries (records trace) i
+    turned-by before s e n f after b (Turns.kindUnknown u) h k = absurd (omega arith)
+    turned-by before s e n f after b (Turns.wrongField u w) h k = absurd (omega arith)
+    turned-by before s e n f after b (Turns.notAllowed p never) h k = record {
+      before = before;
+      event = e;
+      after = after;
+      split = b;
+      steps = k;
+      s = s;
+      run = ours before s f;
+      proper = p;
+      never = never;
+    }
 
-        stop : (n j : ℕ) → Stops table trace n j → n ≡ 11 → j ≡ i → TurnedAt entries (records trace) i
-        stop n j (tableLength w) h k = absurd (omega arith)
-        stop n j (tableRecord {n = m} {entries = es} {r = r} before w b reads g) h k = absurd (omega (arith, table-number es r m g))
-        stop n j (traceLength es r w) h k = absurd (omega arith)
-        stop n j (traceRecord {n = m} {s = s} {e = e} before f b t) h k = turn before s e m f (b .0) (b .1) k t h
+    stopped-by : (n j : ℕ) → Stops table trace n j → n ≡ 11 → j ≡ i → TurnedAt entries (records trace) i
+    stopped-by n j (tableLength w) h k = absurd (omega arith)
+    stopped-by n j (tableRecord {n = m} {entries = es} {r = r} before w b reads g) h k = absurd (omega (arith, table-number es r m g))
+    stopped-by n j (traceLength es r w) h k = absurd (omega arith)
+    stopped-by n j (traceRecord {n = m} {s = s} {e = e} before f b t) h k = turned-by before s e m f (b .0) (b .1) t h k
 
-        go : (r : Reply) → Checks table trace room r → r .number ≡ 11 → r .place ≡ i → TurnedAt entries (records trace) i
-        go r (Checks.stopped {n} {i = j} s) h k = stop n j s h k
-        go r (Checks.unfinished f u) h k = absurd (omega arith)
-        go r (Checks.tooSmall f d l) h k = absurd (omega arith)
-        go r (Checks.finished f d l) h k = absurd (omega arith)
+    turned : (q : Reply) → Checks table trace room q → q .number ≡ 11 → q .place ≡ i → TurnedAt entries (records trace) i
+    turned q (Checks.stopped {n} {i = j} s) h k = stopped-by n j s h k
+    turned q (Checks.unfinished f u) h k = absurd (omega arith)
+    turned q (Checks.tooSmall f d m) h k = absurd (omega arith)
+    turned q (Checks.finished f d m) h k = absurd (omega arith)
 
-        back : TurnedAt entries (records trace) i → (checked table trace room .number ≡ 11) × (checked table trace room .place ≡ i)
-        back t =
-            let w = proper-split (t .before) (t .event) (t .after) (subst AllProper (t .split) proper) in
-            let f : Follows table trace (t .before) (t .s) = record { entries = entries; readable = readable; whole = whole; proper = w .0; run = t .run } in
-            let c = checked-exactly table trace room _ .1 (Checks.stopped (traceRecord (t .before) f (t .after, t .split) (Turns.notAllowed (w .1) (t .never)))) in
-            (ap (λ (a : Reply). a .number) c, ap (λ (a : Reply). a .place) c ∙ t .steps)
+  -- ---- and when they are given
 
-    -- number 12, at the steps in the trace
-    pub unfinished-reply : (s : Machine) → Run (start entries) (records trace) s → ¬ Finished s → checked table trace room ≡ refuse 12 (length (records trace)) room
-    unfinished-reply s r u = checked-exactly table trace room _ .1 (Checks.unfinished (follows s r) u)
+  module _ (whole : Whole trace) (r : Reply) (e : r ≡ checked table trace room) where
+    stated : Checks table trace room r
+    stated = checked-exactly table trace room r .0 (sym e)
 
-    pub unfinished-exactly : (checked table trace room .number ≡ 12) ↔ ((s : Machine) × Run (start entries) (records trace) s × ¬ Finished s)
-    unfinished-exactly = (go (checked table trace room) (checked-exactly table trace room _ .0 refl), λ r. ap (λ (a : Reply). a .number) (unfinished-reply (r .0) (r .1) (r .2)))
-      where
-        go : (r : Reply) → Checks table trace room r → r .number ≡ 12 → (s : Machine) × Run (start entries) (records trace) s × ¬ Finished s
-        go r (Checks.stopped {n} {i} s) h = absurd (omega (arith, stops-number table trace n i s))
-        go r (Checks.unfinished {s} f u) h = (s, ours (records trace) s f, u)
-        go r (Checks.tooSmall f d l) h = absurd (omega arith)
-        go r (Checks.finished f d l) h = absurd (omega arith)
+    gives : (q : Reply) → Checks table trace room q → r ≡ q
+    gives q c = e ∙ checked-exactly table trace room q .1 c
 
-    -- finishing writes k records that complete the run
-    pub completed-by : (s : Machine) → Run (start entries) (records trace) s → recordSize * left s ≤ length room
-        → (completed table trace room ≡ done (left s) (fileOf (completion s) ++ drop (recordSize * left s) room)) × Completes (start entries) (left (start entries)) (records trace ++ completion s)
-    completed-by s r l =
-        let f = completion-runs entries (records trace) s r in
-        let c = completion-completes entries (records trace) s r in (
-          completed-exactly table trace room _ .1 (Finishes.completed (completion s) (f .0) (follows s r) (f .1) l),
-          record {
-            steps = simp length-append (omega (arith, run-left (records trace) (start entries) s r, c .steps));
-            end = c .end;
-            run = run-append (records trace) (completion s) (start entries) s (c .end) r (c .run);
-            finished = c .finished;
-          },
-        )
+    follows : (events : List Event) (s : Machine) → Run (start entries) events s → Follows table trace events s
+    follows events s run = record { entries = entries; readable = readable; whole = whole; run = run }
+
+    reports : resultWords ≤ length room → (s : Machine) → Run (start entries) (records trace) s → Finished s → r ≡ done (length (records trace)) (words s ++ drop resultWords room)
+    reports l s run finished = gives _ (Checks.finished (follows (records trace) s run) finished l)
+
+    turns : (i : ℕ) → TurnedAt entries (records trace) i → r ≡ refuse 11 i room
+    turns i t =
+        gives _ (Checks.stopped (traceRecord (t .before) (follows (t .before) (t .s) (t .run)) (t .after, t .split) (Turns.notAllowed (t .proper) (t .never))))
+        ∙ ap (λ (k : ℕ). refuse 11 k room) (t .steps)
+
+    demand2 : Demand2 trace room entries r
+    demand2 = record {
+      accepts = λ l. (accepted r stated, λ t. ap (λ (q : Reply). q .number) (reports l (t .0) (t .1) (t .2)));
+      reports = reports;
+      unfinished = λ i. (
+        λ h. ends i r stated (ap (λ (q : Reply). q .number) h) (ap (λ (q : Reply). q .place) h),
+        λ t. gives _ (Checks.unfinished (follows (records trace) (t .0) (t .1)) (t .2)) ∙ ap (λ (k : ℕ). refuse 12 k room) (t .3),
+      );
+      turns = λ i. (λ h. turned i r stated (ap (λ (q : Reply). q .number) h) (ap (λ (q : Reply). q .place) h), turns i);
+    }
+
+pub check-meets : (table trace room : List ℕ) (r : Reply) → r ≡ checked table trace room → CheckMeets table trace room r
+check-meets table trace room r e = record {
+  stated = checked-exactly table trace room r .0 (sym e);
+  lent = subst (Lent room) (sym e) (check-lends table trace room);
+  demand2 = λ entries readable whole. demand2 table trace room entries readable whole r e;
+}

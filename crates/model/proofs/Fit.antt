@@ -1,8 +1,9 @@
--- In a run of a table of bytes every value is below 2^32 and every location is one of the eight.
+-- In a run every location is one of the eight, and every value is a `Value`, as those of the table are: 0 and the sums, which are reduced, have to be.
+-- It is used with "below 2^32", for a table of bytes, and with "anything".
 use mathlib.Core.Path.{_≡_, subst}
 use mathlib.Core.Bool.{Bool, true, false, cond}
 use mathlib.Core.List.{List, [], _∷_}
-use Prim.Native.Nat.{ℕ, _<_}
+use Prim.Native.Nat.{ℕ, _+_, _%_, _<_}
 use native.Mathlib.Omega.{arith}
 use lib.ListN.{getD, set}
 use lib.Dec.{eqb}
@@ -15,141 +16,143 @@ use Rattle.model.specs.Step.{newest}
 use Rattle.model.proofs.Lists.{each, all-append}
 use Rattle.model.proofs.Sees.{sees-newest}
 
--- ---- what fits
+module _ (Value : ℕ → Type 0) where
+  -- ---- what fits
 
-abbrev pub SourceFits : Source → Type 0
-SourceFits (constant v) = v < values
-SourceFits (register r) = Unit {0}
-SourceFits (swapped r) = Unit {0}
-SourceFits (added r) = Unit {0}
+  abbrev pub SourceFits : Source → Type 0
+  SourceFits (constant v) = Value v
+  SourceFits (register r) = Unit {0}
+  SourceFits (swapped r) = Unit {0}
+  SourceFits (added r) = Unit {0}
 
-abbrev pub StepFits : ProgramStep → Type 0
-StepFits (read x to) = x < locations
-StepFits (write x from) = (x < locations) × SourceFits from
-StepFits fence = Unit {0}
-StepFits lock = Unit {0}
-StepFits unlock = Unit {0}
-StepFits (local r v) = v < values
+  abbrev pub StepFits : ProgramStep → Type 0
+  StepFits (read x to) = x < locations
+  StepFits (write x from) = (x < locations) × SourceFits from
+  StepFits fence = Unit {0}
+  StepFits lock = Unit {0}
+  StepFits unlock = Unit {0}
+  StepFits (local r v) = Value v
 
-abbrev pub WriteFits : WaitingWrite → Type 0
-WriteFits w = (w .location < locations) × (w .value < values)
+  abbrev pub WriteFits : WaitingWrite → Type 0
+  WriteFits w = (w .location < locations) × Value (w .value)
 
-pub record Fits (P : Processor) : Type 0 where
-  pub todo : All StepFits (P .todo)
-  pub kept : P .kept < values
-  pub registers : (r : ℕ) → getD (P .registers) r 0 < values
-  pub waiting : All WriteFits (P .waiting)
+  pub record Fits (P : Processor) : Type 0 where
+    pub todo : All StepFits (P .todo)
+    pub kept : Value (P .kept)
+    pub registers : (r : ℕ) → Value (getD (P .registers) r 0)
+    pub waiting : All WriteFits (P .waiting)
 
-pub record MachineFits (s : Machine) : Type 0 where
-  pub each-one : (p : ℕ) → Fits (processor s p)
-  pub memory : (x : ℕ) → getD (s .memory) x 0 < values
+  pub record MachineFits (s : Machine) : Type 0 where
+    pub each-one : (p : ℕ) → Fits (processor s p)
+    pub memory : (x : ℕ) → Value (getD (s .memory) x 0)
 
--- ---- what a processor sees and issues fits
+  pub record EventFits (e : Event) : Type 0 where
+    pub location : e .location < locations
+    pub value : Value (e .value)
 
-newest-fits : (ws : List WaitingWrite) (x m : ℕ) → All WriteFits ws → m < values → newest ws x m < values
-unfolding newest
-newest-fits [] x m a h = h
-newest-fits (w ∷ ws) x m a h = newest-fits ws x _ (a .1) (go (eqb (w .location) x))
-  where
-    go : (b : Bool) → cond b (w .value) m < values
-    go true = a .0 .1
-    go false = h
+  -- ---- what a step changes fits
 
-issued-fits : (P : Processor) (from : Source) → Fits P → SourceFits from → issued P from < values
-unfolding issued inRegister
-issued-fits P (constant v) f h = h
-issued-fits P (register r) f h = f .registers r
-issued-fits P (swapped r) f h = f .registers r
-issued-fits P (added r) f h = omega arith
+  cells-fit : (l : List ℕ) (i v : ℕ) → ((j : ℕ) → Value (getD l j 0)) → Value v → (j : ℕ) → Value (getD (set l i v) j 0)
+  cells-fit l i v h k = each 0 (λ j n. Value n) l i v h k
 
-cells-fit : (l : List ℕ) (i v : ℕ) → ((j : ℕ) → getD l j 0 < values) → v < values → (j : ℕ) → getD (set l i v) j 0 < values
-cells-fit l i v h k = each 0 (λ j n. n < values) l i v h k
+  rest-fits : (P : Processor) (st : ProgramStep) (rest : List ProgramStep) → Fits P → P .todo ≡ st ∷ rest → StepFits st × All StepFits rest
+  rest-fits P st rest f h = rw h at (f .todo)
 
-exchanged-fits : (P : Processor) (from : Source) → Fits P → (r : ℕ) → getD (exchanged P from) r 0 < values
-unfolding exchanged
-exchanged-fits P (constant v) f = f .registers
-exchanged-fits P (register r) f = f .registers
-exchanged-fits P (swapped r) f = cells-fit (P .registers) _ (P .kept) (f .registers) (f .kept)
-exchanged-fits P (added r) f = cells-fit (P .registers) _ (P .kept) (f .registers) (f .kept)
+  advanced-fits : (P : Processor) (rest : List ProgramStep) → Fits P → All StepFits rest → Fits (advanced P rest)
+  unfolding advanced
+  advanced-fits P rest f a = record { todo = a; kept = f .kept; registers = f .registers; waiting = f .waiting }
 
--- ---- what a step changes fits
+  pub assigned-fits : (P : Processor) (rest : List ProgramStep) (r v : ℕ) → Fits P → All StepFits rest → Value v → Fits (assigned P rest r v)
+  unfolding assigned
+  assigned-fits P rest r v f a h = record { todo = a; kept = f .kept; registers = cells-fit (P .registers) r v (f .registers) h; waiting = f .waiting }
 
-rest-fits : (P : Processor) (st : ProgramStep) (rest : List ProgramStep) → Fits P → P .todo ≡ st ∷ rest → StepFits st × All StepFits rest
-rest-fits P st rest f h = rw h at (f .todo)
+  received-fits : (P : Processor) (rest : List ProgramStep) (to : Target) (v : ℕ) → Fits P → All StepFits rest → Value v → Fits (received P rest to v)
+  unfolding received
+  received-fits P rest (into r) v f a h = assigned-fits P rest r v f a h
+  received-fits P rest aside v f a h = record { todo = a; kept = h; registers = f .registers; waiting = f .waiting }
 
-advanced-fits : (P : Processor) (rest : List ProgramStep) → Fits P → All StepFits rest → Fits (advanced P rest)
-unfolding advanced
-advanced-fits P rest f a = record { todo = a; kept = f .kept; registers = f .registers; waiting = f .waiting }
+  drained-fits : (P : Processor) (newer : List WaitingWrite) → Fits P → All WriteFits newer → Fits (drained P newer)
+  unfolding drained
+  drained-fits P newer f a = record { todo = f .todo; kept = f .kept; registers = f .registers; waiting = a }
 
-pub assigned-fits : (P : Processor) (rest : List ProgramStep) (r v : ℕ) → Fits P → All StepFits rest → v < values → Fits (assigned P rest r v)
-unfolding assigned
-assigned-fits P rest r v f a h = record { todo = a; kept = f .kept; registers = cells-fit (P .registers) r v (f .registers) h; waiting = f .waiting }
+  pub with-fits : (s : Machine) (p : ℕ) (P : Processor) → MachineFits s → Fits P → MachineFits (withProcessor s p P)
+  unfolding withProcessor processor
+  with-fits s p P f h = record { each-one = each idle (λ q Q. Fits Q) (s .processors) p P (f .each-one) h; memory = f .memory }
 
-received-fits : (P : Processor) (rest : List ProgramStep) (to : Target) (v : ℕ) → Fits P → All StepFits rest → v < values → Fits (received P rest to v)
-unfolding received
-received-fits P rest (into r) v f a h = assigned-fits P rest r v f a h
-received-fits P rest aside v f a h = record { todo = a; kept = h; registers = f .registers; waiting = f .waiting }
+  pub cell-fits : (s : Machine) (x v : ℕ) → MachineFits s → Value v → MachineFits (withCell s x v)
+  unfolding withCell processor
+  cell-fits s x v f h = record { each-one = f .each-one; memory = cells-fit (s .memory) x v (f .memory) h }
 
-wrote-fits : (P : Processor) (rest : List ProgramStep) (x : ℕ) (from : Source) → Fits P → All StepFits rest → StepFits (write x from) → Fits (wrote P rest x from)
-unfolding wrote
-wrote-fits P rest x from f a h = record {
-  todo = a;
-  kept = f .kept;
-  registers = exchanged-fits P from f;
-  waiting = all-append WriteFits (P .waiting) _ (f .waiting) ((h .0, issued-fits P from f (h .1)), tt);
-}
+  -- ---- what a processor sees and issues fits
 
-drained-fits : (P : Processor) (newer : List WaitingWrite) → Fits P → All WriteFits newer → Fits (drained P newer)
-unfolding drained
-drained-fits P newer f a = record { todo = f .todo; kept = f .kept; registers = f .registers; waiting = a }
+  newest-fits : (ws : List WaitingWrite) (x m : ℕ) → All WriteFits ws → Value m → Value (newest ws x m)
+  unfolding newest
+  newest-fits [] x m a h = h
+  newest-fits (w ∷ ws) x m a h = newest-fits ws x _ (a .1) (go (eqb (w .location) x))
+    where
+      go : (b : Bool) → Value (cond b (w .value) m)
+      go true = a .0 .1
+      go false = h
 
-pub with-fits : (s : Machine) (p : ℕ) (P : Processor) → MachineFits s → Fits P → MachineFits (withProcessor s p P)
-unfolding withProcessor processor
-with-fits s p P f h = record { each-one = each idle (λ q Q. Fits Q) (s .processors) p P (f .each-one) h; memory = f .memory }
+  exchanged-fits : (P : Processor) (from : Source) → Fits P → (r : ℕ) → Value (getD (exchanged P from) r 0)
+  unfolding exchanged
+  exchanged-fits P (constant v) f = f .registers
+  exchanged-fits P (register r) f = f .registers
+  exchanged-fits P (swapped r) f = cells-fit (P .registers) _ (P .kept) (f .registers) (f .kept)
+  exchanged-fits P (added r) f = cells-fit (P .registers) _ (P .kept) (f .registers) (f .kept)
 
-pub cell-fits : (s : Machine) (x v : ℕ) → MachineFits s → v < values → MachineFits (withCell s x v)
-unfolding withCell processor
-cell-fits s x v f h = record { each-one = f .each-one; memory = cells-fit (s .memory) x v (f .memory) h }
+  module _ (reduced : (n : ℕ) → Value (n % values)) where
+    issued-fits : (P : Processor) (from : Source) → Fits P → SourceFits from → Value (issued P from)
+    unfolding issued inRegister
+    issued-fits P (constant v) f h = h
+    issued-fits P (register r) f h = f .registers r
+    issued-fits P (swapped r) f h = f .registers r
+    issued-fits P (added r) f h = reduced (P .kept + inRegister P r)
 
--- ---- the event of a step that is allowed, and the machine after it
+    wrote-fits : (P : Processor) (rest : List ProgramStep) (x : ℕ) (from : Source) → Fits P → All StepFits rest → StepFits (write x from) → Fits (wrote P rest x from)
+    unfolding wrote
+    wrote-fits P rest x from f a h = record {
+      todo = a;
+      kept = f .kept;
+      registers = exchanged-fits P from f;
+      waiting = all-append WriteFits (P .waiting) _ (f .waiting) ((h .0, issued-fits P from f (h .1)), tt);
+    }
 
-pub record EventFits (e : Event) : Type 0 where
-  pub location : e .location < locations
-  pub value : e .value < values
+    -- ---- the event of a step that is allowed, and the machine after it
 
-pub event-fits : (s : Machine) (e : Event) (t : Machine) → Allowed s e t → MachineFits s → EventFits e
-unfolding cell
-event-fits s e t (Read {p} {x} {v} {rest = rest} h n u) f = record {
-  location = rest-fits (processor s p) _ rest (f .each-one p) h .0;
-  value = subst (λ (k : ℕ). k < values) (sees-newest (processor s p .waiting) x (cell s x) v u) (newest-fits (processor s p .waiting) x (cell s x) (f .each-one p .waiting) (f .memory x));
-}
-event-fits s e t (Write {p} {x} {v} {from = from} {rest = rest} h i) f =
-    let k = rest-fits (processor s p) _ rest (f .each-one p) h .0 in
-    record { location = k .0; value = subst (λ (k : ℕ). k < values) i (issued-fits (processor s p) from (f .each-one p) (k .1)) }
-event-fits s e t (Drain {p} n h) f = let k = rw h at (f .each-one p .waiting) in record { location = k .0 .0; value = k .0 .1 }
-event-fits s e t (Fence h w) f = record { location = omega arith; value = omega arith }
-event-fits s e t (Lock h g w) f = record { location = omega arith; value = omega arith }
-event-fits s e t (Unlock h g w) f = record { location = omega arith; value = omega arith }
-event-fits s e t (Local h) f = record { location = omega arith; value = omega arith }
+    pub event-fits : (s : Machine) (e : Event) (t : Machine) → Allowed s e t → MachineFits s → EventFits e
+    unfolding cell
+    event-fits s e t (Read {p} {x} {v} {rest = rest} h n u) f = record {
+      location = rest-fits (processor s p) _ rest (f .each-one p) h .0;
+      value = subst Value (sees-newest (processor s p .waiting) x (cell s x) v u) (newest-fits (processor s p .waiting) x (cell s x) (f .each-one p .waiting) (f .memory x));
+    }
+    event-fits s e t (Write {p} {x} {v} {from = from} {rest = rest} h i) f =
+        let k = rest-fits (processor s p) _ rest (f .each-one p) h .0 in
+        record { location = k .0; value = subst Value i (issued-fits (processor s p) from (f .each-one p) (k .1)) }
+    event-fits s e t (Drain {p} n h) f = let k = rw h at (f .each-one p .waiting) in record { location = k .0 .0; value = k .0 .1 }
+    event-fits s e t (Fence h w) f = record { location = omega arith; value = reduced 0 }
+    event-fits s e t (Lock h g w) f = record { location = omega arith; value = reduced 0 }
+    event-fits s e t (Unlock h g w) f = record { location = omega arith; value = reduced 0 }
+    event-fits s e t (Local h) f = record { location = omega arith; value = reduced 0 }
 
-pub step-fits : (s : Machine) (e : Event) (t : Machine) → Allowed s e t → MachineFits s → MachineFits t
-unfolding withHolder processor
-step-fits s e t (Read {p} {x} {v} {to = to} {rest = rest} h n u) f =
-    with-fits s p _ f
-    (received-fits (processor s p) rest to v (f .each-one p) (rest-fits (processor s p) _ rest (f .each-one p) h .1) (event-fits s _ _ (Read {to = to} h n u) f .value))
-step-fits s e t (Write {p} {x} {from = from} {rest = rest} h v) f =
-    let k = rest-fits (processor s p) _ rest (f .each-one p) h in
-    with-fits s p _ f (wrote-fits (processor s p) rest x from (f .each-one p) (k .1) (k .0))
-step-fits s e t (Drain {p} {x} {v} {newer = newer} n h) f =
-    let k = rw h at (f .each-one p .waiting) in
-    cell-fits (withProcessor s p (drained (processor s p) newer)) x v (with-fits s p _ f (drained-fits (processor s p) newer (f .each-one p) (k .1))) (k .0 .1)
-step-fits s e t (Fence {p} {rest = rest} h w) f = with-fits s p _ f (advanced-fits (processor s p) rest (f .each-one p) (rest-fits (processor s p) _ rest (f .each-one p) h .1))
-step-fits s e t (Lock {p} {rest = rest} h g w) f =
-    let k = with-fits s p _ f (advanced-fits (processor s p) rest (f .each-one p) (rest-fits (processor s p) _ rest (f .each-one p) h .1)) in
-    record { each-one = k .each-one; memory = k .memory }
-step-fits s e t (Unlock {p} {rest = rest} h g w) f =
-    let k = with-fits s p _ f (advanced-fits (processor s p) rest (f .each-one p) (rest-fits (processor s p) _ rest (f .each-one p) h .1)) in
-    record { each-one = k .each-one; memory = k .memory }
-step-fits s e t (Local {p} {r} {v} {rest = rest} h) f =
-    let k = rest-fits (processor s p) _ rest (f .each-one p) h in
-    with-fits s p _ f (assigned-fits (processor s p) rest r v (f .each-one p) (k .1) (k .0))
+    pub step-fits : (s : Machine) (e : Event) (t : Machine) → Allowed s e t → MachineFits s → MachineFits t
+    unfolding withHolder processor
+    step-fits s e t (Read {p} {x} {v} {to = to} {rest = rest} h n u) f =
+        with-fits s p _ f
+        (received-fits (processor s p) rest to v (f .each-one p) (rest-fits (processor s p) _ rest (f .each-one p) h .1) (event-fits s _ _ (Read {to = to} h n u) f .value))
+    step-fits s e t (Write {p} {x} {from = from} {rest = rest} h v) f =
+        let k = rest-fits (processor s p) _ rest (f .each-one p) h in
+        with-fits s p _ f (wrote-fits (processor s p) rest x from (f .each-one p) (k .1) (k .0))
+    step-fits s e t (Drain {p} {x} {v} {newer = newer} n h) f =
+        let k = rw h at (f .each-one p .waiting) in
+        cell-fits (withProcessor s p (drained (processor s p) newer)) x v (with-fits s p _ f (drained-fits (processor s p) newer (f .each-one p) (k .1))) (k .0 .1)
+    step-fits s e t (Fence {p} {rest = rest} h w) f = with-fits s p _ f (advanced-fits (processor s p) rest (f .each-one p) (rest-fits (processor s p) _ rest (f .each-one p) h .1))
+    step-fits s e t (Lock {p} {rest = rest} h g w) f =
+        let k = with-fits s p _ f (advanced-fits (processor s p) rest (f .each-one p) (rest-fits (processor s p) _ rest (f .each-one p) h .1)) in
+        record { each-one = k .each-one; memory = k .memory }
+    step-fits s e t (Unlock {p} {rest = rest} h g w) f =
+        let k = with-fits s p _ f (advanced-fits (processor s p) rest (f .each-one p) (rest-fits (processor s p) _ rest (f .each-one p) h .1)) in
+        record { each-one = k .each-one; memory = k .memory }
+    step-fits s e t (Local {p} {r} {v} {rest = rest} h) f =
+        let k = rest-fits (processor s p) _ rest (f .each-one p) h in
+        with-fits s p _ f (assigned-fits (processor s p) rest r v (f .each-one p) (k .1) (k .0))

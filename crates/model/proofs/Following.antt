@@ -1,10 +1,11 @@
--- Following a trace: it passes exactly where every event is proper and together they are a run.
+-- Following a trace: each record is tested 9, 10, and by the rules. What passes is a run, and a run of proper events passes.
 use mathlib.Core.Path.{_≡_, refl, sym, ap, _∙_, subst}
 use mathlib.Core.Logic.{_↔_, _⊎_, inl, inr}
 use mathlib.Core.Bool.{Bool, true, false, cond, _||_}
 use mathlib.Core.Option.{Option, none, some}
 use mathlib.Core.List.{List, [], _∷_}
 use Prim.Native.Nat.{ℕ, suc}
+use Rattle.model.specs.Lists.{All}
 use Rattle.model.specs.Fields.{Known, Proper}
 use Rattle.model.specs.Kinds.{stepUses}
 use Rattle.model.specs.Machine.{Machine}
@@ -12,7 +13,7 @@ use Rattle.model.specs.Rules.{Event, Allowed, Run}
 use Rattle.model.specs.Step.{Stepped, took, turned, step}
 use Rattle.model.specs.Tests.{first, unknown, tooLarge, notZero, passed, refused, inOrder}
 use Rattle.model.specs.Calls.{stepTests, atPlace, takeRecord}
-use Rattle.model.specs.Numbers.{Turns, AllProper}
+use Rattle.model.specs.Numbers.{Turns}
 use Rattle.model.proofs.Tests.{some-inj, none-some, passed-inj, passed-refused, and-then-passed, unless-passed, unless-refused, unless-none, unless-some}
 use Rattle.model.proofs.InOrder.{in-order-more}
 use Rattle.model.proofs.Fields.{or-left, or-right, or-false, known-test, range-test, zero-test}
@@ -57,9 +58,9 @@ unfolding atPlace
 turned-at i (took u) n j h = passed-refused h
 turned-at i (turned m) n j h = (cc, cc)
 
-take-passed : (i : ℕ) (s t : Machine) (e : Event) → takeRecord i s e ≡ passed t → Proper stepUses e × Allowed s e t
+take-passed : (i : ℕ) (s t : Machine) (e : Event) → takeRecord i s e ≡ passed t → Allowed s e t
 unfolding takeRecord
-take-passed i s t e h = let u = unless-passed (first (stepTests e)) i _ t h in (proper-passes e .0 (u .0), step-allowed s e t (took-at i (step s e) t (u .1)))
+take-passed i s t e h = step-allowed s e t (took-at i (step s e) t (unless-passed (first (stepTests e)) i _ t h .1))
 
 take-allowed : (i : ℕ) (s t : Machine) (e : Event) → Proper stepUses e → Allowed s e t → takeRecord i s e ≡ passed t
 unfolding takeRecord atPlace
@@ -93,16 +94,14 @@ take-turns i s e n (Turns.notAllowed p never) = unless-none (first (stepTests e)
 
 -- ---- all of them
 
-pub runs : (i : ℕ) (s u : Machine) (es : List Event) → inOrder takeRecord i s es ≡ passed u → AllProper es × Run s es u
+pub runs : (i : ℕ) (s u : Machine) (es : List Event) → inOrder takeRecord i s es ≡ passed u → Run s es u
 unfolding inOrder
-runs i s u [] h = (tt, passed-inj h)
+runs i s u [] h = passed-inj h
 runs i s u (e ∷ es) h =
     let a = and-then-passed (takeRecord i s e) (λ t. inOrder takeRecord (suc i) t es) u h in
-    let p = take-passed i s (a .0) e (a .1) in
-    let r = runs (suc i) (a .0) u es (a .2) in
-    ((p .0, r .0), (a .0, p .1, r .1))
+    (a .0, take-passed i s (a .0) e (a .1), runs (suc i) (a .0) u es (a .2))
 
-pub runs-back : (i : ℕ) (s u : Machine) (es : List Event) → AllProper es → Run s es u → inOrder takeRecord i s es ≡ passed u
+pub runs-back : (i : ℕ) (s u : Machine) (es : List Event) → All (Proper stepUses) es → Run s es u → inOrder takeRecord i s es ≡ passed u
 unfolding inOrder
 runs-back i s u [] w r = ap passed r
 runs-back i s u (e ∷ es) w r = in-order-more takeRecord i s (r .0) e es (take-allowed i s (r .0) e (w .0) (r .1)) ∙ runs-back (suc i) (r .0) u es (w .1) (r .2)

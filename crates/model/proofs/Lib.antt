@@ -39,4 +39,5 @@ pub mod Completed
 -- ---- what the code's types stand for
 pub mod Verdicts
 pub mod Rows
+pub mod Roles
 pub mod Columns

@@ -18,19 +18,23 @@ use Rattle.model.specs.Numbers.{Turns, Follows, Stops, tableLength, tabl
 use Rattle.model.proofs.Tests.{and-then-passed, and-then-refused, then-passed, then-refused}
 use Rattle.model.proofs.InOrder.{Earliest, in-order-at, file-whole, file-not-whole, file-passed, file-refused}
 use Rattle.model.proofs.Reading.{read-refused, read-refuses, reads, reads-back, readable-exactly}
+use Rattle.model.proofs.Proper.{run-proper}
 use Rattle.model.proofs.Following.{take-refused, take-turns, runs, runs-back}
 
 -- ---- the whole trace is a run from the table's start
+
+-- the events of a run pass
+follows-passes : (table trace : List ℕ) (es : List Event) (s : Machine) (f : Follows table trace es s) → inOrder takeRecord 0 (start (f .entries)) es ≡ passed s
+follows-passes table trace es s f = runs-back 0 (start (f .entries)) s es (run-proper table (f .entries) (f .readable) es s (f .run)) (f .run)
 
 pub tried-follows : (table trace : List ℕ) (s : Machine) → (tried table trace ≡ passed s) ↔ Follows table trace (records trace) s
 unfolding tried following
 tried-follows table trace s = (
   λ h. let a = and-then-passed (reading table) (λ es. following (start es) trace) s h in
       let f = file-passed 8 takeRecord (start (a .0)) s trace (a .2) in
-      let r = runs 0 (start (a .0)) s (records trace) (f .1) in
-      record { entries = a .0; readable = readable-exactly table (a .0) .0 (a .1); whole = f .0; proper = r .0; run = r .1 },
+      record { entries = a .0; readable = readable-exactly table (a .0) .0 (a .1); whole = f .0; run = runs 0 (start (a .0)) s (records trace) (f .1) },
   λ f. then-passed (reading table) (λ es. following (start es) trace) (f .entries) (readable-exactly table (f .entries) .1 (f .readable))
-      ∙ file-whole 8 takeRecord (start (f .entries)) trace (f .whole) ∙ runs-back 0 (start (f .entries)) s (records trace) (f .proper) (f .run),
+      ∙ file-whole 8 takeRecord (start (f .entries)) trace (f .whole) ∙ follows-passes table trace (records trace) s f,
 )
 
 -- ---- or a test stops it
@@ -56,9 +60,8 @@ trace-stops table trace es n i readable h = go (file-refused 8 takeRecord (start
     go (inr w) =
         let e = w .1 in
         let t = take-refused (0 + length (e .before)) (e .given) (e .r) n i (e .refuses) in
-        let r = runs 0 (start es) (e .given) (e .before) (e .passes) in
-        subst (λ (j : ℕ). Stops table trace n j) (sym (zero-add (length (e .before))) ∙ t .1)
-        (traceRecord (e .before) (record { entries = es; readable = readable; whole = w .0; proper = r .0; run = r .1 }) (e .after, e .found) (t .0))
+        let f : Follows table trace (e .before) (e .given) = record { entries = es; readable = readable; whole = w .0; run = runs 0 (start es) (e .given) (e .before) (e .passes) } in
+        subst (λ (j : ℕ). Stops table trace n j) (sym (zero-add (length (e .before))) ∙ t .1) (traceRecord (e .before) f (e .after, e .found) (t .0))
 
 stops-table : (table trace : List ℕ) (n i : ℕ) → reading table ≡ refused n i → tried table trace ≡ refused n i
 unfolding tried
@@ -75,7 +78,7 @@ unfolding following
 stops-event table trace before e after s n found f t =
     file-whole 8 takeRecord (start (f .entries)) trace (f .whole)
     ∙ ap (inOrder takeRecord 0 (start (f .entries))) found
-    ∙ in-order-at takeRecord 0 (start (f .entries)) s before e after n (length before) (runs-back 0 (start (f .entries)) s before (f .proper) (f .run))
+    ∙ in-order-at takeRecord 0 (start (f .entries)) s before e after n (length before) (follows-passes table trace before s f)
     (ap (λ (k : ℕ). takeRecord k s e) (zero-add (length before)) ∙ take-turns (length before) s e n t)
 
 stopped-back : (table trace : List ℕ) (n i : ℕ) → Stops table trace n i → tried table trace ≡ refused n i

@@ -1,18 +1,18 @@
--- The events of a run of a table of bytes are proper records, and are read back from their bytes.
+-- The events of a run of a readable table are proper records: so no step that is allowed is refused with 9 or 10. If the table is bytes, their values are below 2^32.
 use mathlib.Core.Path.{_≡_, refl, sym, ap, _∙_}
 use mathlib.Core.List.{List, [], _∷_}
-use Prim.Native.Nat.{ℕ, suc, _<_}
+use Prim.Native.Nat.{ℕ, suc, _%_, _<_}
 use native.Mathlib.Omega.{arith}
 use lib.ListN.{length, getD, length-set}
-use Rattle.model.specs.Sizes.{processors, locations}
+use Rattle.model.specs.Sizes.{processors, locations, values}
 use Rattle.model.specs.Lists.{All}
+use Rattle.model.specs.Record.{recordAt}
 use Rattle.model.specs.Fields.{Field, used, Proper}
 use Rattle.model.specs.Kinds.{Entry, stepUses}
 use Rattle.model.specs.Table.{Readable, start}
 use Rattle.model.specs.Machine.{Machine, processor, idle}
 use Rattle.model.specs.Rules.{Event, event, Allowed, Read, Write, Drain, Fence, Lock, Unlock, Local, Run}
 use Rattle.model.specs.Left.{leftOf}
-use Rattle.model.specs.Numbers.{AllProper}
 use Rattle.model.specs.Promises.{Bytes}
 use Rattle.model.proofs.Bools.{false-true}
 use Rattle.model.proofs.Lists.{there}
@@ -21,7 +21,7 @@ use Rattle.model.proofs.Runs.{run-keeps}
 use Rattle.model.proofs.Bytes.{Small}
 use Rattle.model.proofs.Sizes.{start-four}
 use Rattle.model.proofs.Fit.{MachineFits, event-fits, step-fits}
-use Rattle.model.proofs.FitStart.{table-fits}
+use Rattle.model.proofs.FitStart.{record-small, table-fits}
 
 -- ---- the processor of a step is one of the four
 
@@ -69,15 +69,27 @@ event-proper s e t (Local {p} h) a b = of-processor 7 p refl (omega arith) (omeg
 
 -- ---- so are all of a run
 
-run-proper : (es : List Event) (s u : Machine) → Run s es u → MachineFits s → Four s → AllProper es × All Small es
-run-proper [] s u r f g = (tt, tt)
-run-proper (e ∷ es) s u r f g =
-    let a = r .1 in
-    let fits = event-fits s e (r .0) a f in
-    let rest = run-proper es (r .0) u (r .2) (step-fits s e (r .0) a f) (step-four s e (r .0) a g) in
-    ((event-proper s e (r .0) a (its-processor s e (r .0) a g) (fits .location), rest .0), (fits .value, rest .1))
+-- `Value` as in Fit.antt
+module _ (Value : ℕ → Type 0) (reduced : (n : ℕ) → Value (n % values)) where
+  all-proper : (es : List Event) (s u : Machine) → Run s es u → MachineFits Value s → Four s → All (Proper stepUses) es × All (λ e. Value (e .value)) es
+  all-proper [] s u r f g = (tt, tt)
+  all-proper (e ∷ es) s u r f g =
+      let a = r .1 in
+      let fits = event-fits Value reduced s e (r .0) a f in
+      let rest = all-proper es (r .0) u (r .2) (step-fits Value reduced s e (r .0) a f) (step-four s e (r .0) a g) in
+      ((event-proper s e (r .0) a (its-processor s e (r .0) a g) (fits .location), rest .0), (fits .value, rest .1))
 
-pub later-proper : (table : List ℕ) (entries : List Entry) → Bytes table → Readable table entries
-    → (es fs : List Event) (s u : Machine) → Run (start entries) es s → Run s fs u → AllProper fs × All Small fs
-later-proper table entries b r es fs s u before after =
-    run-proper fs s u after (run-keeps MachineFits step-fits es (start entries) s before (table-fits table entries b r)) (run-keeps Four step-four es (start entries) s before (start-four entries))
+  -- those of a run that goes on from where a run of the table led
+  later-proper : (table : List ℕ) (entries : List Entry) → ((i : ℕ) → Value (recordAt table i .value)) → Readable table entries
+      → (es fs : List Event) (s u : Machine) → Run (start entries) es s → Run s fs u → All (Proper stepUses) fs × All (λ e. Value (e .value)) fs
+  later-proper table entries h r es fs s u before after =
+      all-proper fs s u after (run-keeps (MachineFits Value) (step-fits Value reduced) es (start entries) s before (table-fits Value (reduced 0) table entries h r))
+      (run-keeps Four step-four es (start entries) s before (start-four entries))
+
+pub run-proper : (table : List ℕ) (entries : List Entry) → Readable table entries → (es : List Event) (s : Machine) → Run (start entries) es s → All (Proper stepUses) es
+run-proper table entries r es s run = later-proper (λ v. Unit {0}) (λ n. tt) table entries (λ i. tt) r [] es (start entries) s refl run .0
+
+pub later-small : (table : List ℕ) (entries : List Entry) → Bytes table → Readable table entries
+    → (es fs : List Event) (s u : Machine) → Run (start entries) es s → Run s fs u → All Small fs
+later-small table entries b r es fs s u before after =
+    later-proper (λ v. v < values) (λ n. omega arith) table entries (λ i. record-small table i b) r es fs s u before after .1

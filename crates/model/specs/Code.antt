@@ -1,20 +1,24 @@
 -- What the code's types stand for: verdicts, attempted steps, programs in columns, cells. Only contracts inside the repository speak of them.
 use mathlib.Core.Path.{_≡_}
 use mathlib.Core.Bool.{Bool, true, false}
-use mathlib.Core.List.{List, [], _∷_, _++_}
-use Prim.Native.Nat.{ℕ, zero, suc, _+_, _*_, _≤_, _<_}
+use mathlib.Core.List.{List, [], _∷_, _++_, map}
+use Prim.Native.Nat.{ℕ, zero, suc, _+_, _*_, _%_, _≤_, _<_}
 use lib.ListN.{length, getD}
 use lib.Seq.{slice}
 use Rattle.model.specs.declared.record.Record.{Record}
+use Rattle.model.specs.declared.kind.Role.{Role}
+use Rattle.model.specs.declared.kind.Role.the-variants.{Unknown, InitialMemory, InitialRegister, StoreConstant, StoreRegister, Load, SetRegister, Fence, Exchange, ExchangeAdd}
 use Rattle.model.specs.declared.answer.Refusal.the-variants.{NotAllowed}
 use Rattle.model.specs.declared.answer.Attempt.{Attempt}
 use Rattle.model.specs.declared.answer.Attempt.the-variants.{Taken, Turned}
 use Rattle.model.specs.declared.answer.Verdict.{Verdict}
 use Rattle.model.specs.declared.answer.Verdict.the-variants.{Passed, Refused}
 use Rattle.model.specs.declared.table.Cells.{Cells}
+use Rattle.model.specs.Sizes as sizes
 use Rattle.model.specs.Sizes.{processors, registersEach, locations, instructionsEach}
-use Rattle.model.specs.Program.{ProgramStep, stepsOf}
-use Rattle.model.specs.Kinds.{Entry, initialMemory, initialRegister, instruction, tableRows, entryOf}
+use Rattle.model.specs.Program.{ProgramStep, stepsOf, storeConstant, storeRegister, load, setRegister, mfence, exchange, lockedExchange, exchangeAdd, lockedExchangeAdd}
+use Rattle.model.specs.Kinds.{Entry, initialMemory, initialRegister, instruction, Kind, tableKinds, tableRows, entryOf}
+use Rattle.model.specs.Reading.{isInstruction}
 use Rattle.model.specs.Machine.{Processor, Machine, free}
 use Rattle.model.specs.Reply.{numberOf}
 use Rattle.model.specs.Step.{Stepped, took, turned}
@@ -46,6 +50,52 @@ judged false = Turned NotAllowed
 abbrev pub steppedOf : Attempt → Machine → Stepped
 steppedOf Taken t = took t
 steppedOf (Turned why) t = turned (numberOf why)
+
+-- ---- roles
+
+-- what an entry is
+abbrev pub roleIn : Entry → Role
+roleIn (initialMemory x v) = InitialMemory
+roleIn (initialRegister p r v) = InitialRegister
+roleIn (instruction p (storeConstant x v)) = StoreConstant
+roleIn (instruction p (storeRegister r x)) = StoreRegister
+roleIn (instruction p (load r x)) = Load
+roleIn (instruction p (setRegister r v)) = SetRegister
+roleIn (instruction p mfence) = Fence
+roleIn (instruction p (exchange r x)) = Exchange
+roleIn (instruction p (lockedExchange r x)) = Exchange
+roleIn (instruction p (exchangeAdd r x)) = ExchangeAdd
+roleIn (instruction p (lockedExchangeAdd r x)) = ExchangeAdd
+
+-- what a record of kind k is, whatever its fields
+unfoldable pub roleOf : ℕ → Role
+unfolding tableKinds
+roleOf zero = Unknown
+roleOf (suc k) = getD (map (λ (row : Kind). roleIn (row .means 0 0 0 0)) tableKinds) (suc k) Unknown
+
+-- what its read and its write do
+pub record Acts : Type 0 where
+  pub loads : Bool  -- the read goes into the register; otherwise it is kept aside
+  pub exchanges : Bool  -- with the write the register takes the kept value
+  pub issues : (constant kept register : ℕ) → ℕ
+
+abbrev acting : Bool → Bool → ((constant kept register : ℕ) → ℕ) → Acts
+acting loads exchanges issues = record { loads = loads; exchanges = exchanges; issues = issues }
+
+abbrev pub acts : Role → Acts
+acts Unknown = acting false false (λ c k r. r)
+acts InitialMemory = acting false false (λ c k r. r)
+acts InitialRegister = acting false false (λ c k r. r)
+acts StoreConstant = acting false false (λ c k r. c)
+acts StoreRegister = acting false false (λ c k r. r)
+acts Load = acting true false (λ c k r. r)
+acts SetRegister = acting false false (λ c k r. r)
+acts Fence = acting false false (λ c k r. r)
+acts Exchange = acting false true (λ c k r. r)
+acts ExchangeAdd = acting false true (λ c k r. (k + r) % sizes.values)
+
+abbrev pub actsOf : ℕ → Acts
+actsOf kind = acts (roleOf kind)
 
 -- ---- arrays
 
@@ -119,10 +169,10 @@ startOf g c = record { processors = four (processorAtStart g c); memory = c .mem
 
 -- ---- what holds of every program and of all cells that a table gives
 
--- an instruction's record: its kind is one of an instruction, its fields are in range
+-- an instruction's record: its fields are in range
 pub record Fit (r : Record) : Type 0 where
-  pub low : 3 ≤ r .kind
-  pub high : r .kind < tableRows
+  pub known : r .kind < tableRows
+  pub instruction : isInstruction (entryOf r) ≡ true
   pub register : r .register < registersEach
   pub location : r .location < locations
 

@@ -1,7 +1,7 @@
 -- The kinds of records: the fields that each uses, and what a table record means (document 01, "Records").
 use mathlib.Core.List.{List, [], _∷_, map}
 use Prim.Native.Nat.{ℕ}
-use lib.ListN.{getD}
+use lib.ListN.{length, getD}
 use Rattle.model.specs.declared.record.Record.{Record}
 use Rattle.model.specs.Fields.{Field, processor, register, location, value}
 use Rattle.model.specs.Program.{Instruction, storeConstant, storeRegister, load, setRegister, mfence, exchange, lockedExchange, exchangeAdd, lockedExchangeAdd}
@@ -41,13 +41,13 @@ tableKinds =
     ∷ kind (processor ∷ register ∷ location ∷ []) (λ p r x v. instruction p (lockedExchangeAdd r x))  -- 11
     ∷ []
 
--- how many rows these are
-abbrev pub tableRows : ℕ
-tableRows = 12
-
 unfoldable pub tableUses : List (List Field)
 unfolding tableKinds
 tableUses = map (λ (k : Kind). k .uses) tableKinds
+
+-- how many rows these are
+abbrev pub tableRows : ℕ
+tableRows = length tableUses
 
 unfoldable pub entryOf : Record → Entry
 unfolding tableKinds

@@ -24,7 +24,7 @@ pub mod Reading
 pub mod Calls
 -- ---- what the code's types stand for
 pub mod Code
--- ---- what follows: words of the theorems, and the sheet's worked lines
+-- ---- what follows: an invariant, the demands, and the sheet's worked lines
 pub mod Orderly
 pub mod Promises
 pub mod Sheet

@@ -5,7 +5,6 @@ use Prim.Native.Nat.{ℕ, _*_, _/_, _≤_, _<_}
 use lib.ListN.{length, drop}
 use Rattle.model.specs.declared.record.Record.{Record}
 use Rattle.model.specs.Sizes.{resultWords, recordSize}
-use Rattle.model.specs.Lists.{All}
 use Rattle.model.specs.Record.{records, fileOf}
 use Rattle.model.specs.Fields.{Known, Proper}
 use Rattle.model.specs.Kinds.{Entry, stepUses}
@@ -22,9 +21,6 @@ pub data Turns (s : Machine) (e : Event) : ℕ → Type 0 where
   wrongField : Known stepUses e → ¬ Proper stepUses e → Turns s e 10
   notAllowed : Proper stepUses e → ((t : Machine) → ¬ Allowed s e t) → Turns s e 11
 
-abbrev pub AllProper : List Event → Type 0
-AllProper events = All (Proper stepUses) events
-
 -- ---- what is followed, and what stops it
 
 -- these events of the trace are a run from the table's start to s
@@ -32,7 +28,6 @@ pub record Follows (table trace : List ℕ) (events : List Event) (s : Machine) 
   pub entries : List Entry
   pub readable : Readable table entries
   pub whole : Whole trace
-  pub proper : AllProper events
   pub run : Run (start entries) events s
 
 -- r is a record of the file, behind the records `before`

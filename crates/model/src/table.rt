@@ -2,6 +2,8 @@
 ghost use mathlib.Core.Path.{_≡_};
 ghost use mathlib.Core.List.{[], _∷_};
 ghost use Rattle.model.specs.Sizes.{processors, registersEach, locations, instructionsEach, resultWords, recordSize, longestTrace};
+ghost use Rattle.model.specs.Kinds.{tableRows};
+use crate::kind::Role;
 use crate::record::Record;
 
 // The instructions as their table records give them, those of processor p at INSTRUCTIONS * p and on: in `codes` all kinds, then all registers, all
@@ -55,8 +57,8 @@ impl Cells {
 }
 
 // The limits above are those of the definitions.
-pub fn limits() -> [usize; 7]
-    ensures { λ r. ⌜ r ≡ processors ∷ registersEach ∷ locations ∷ instructionsEach ∷ resultWords ∷ recordSize ∷ longestTrace ∷ [] ⌝ }
+pub fn limits() -> [usize; 8]
+    ensures { λ r. ⌜ r ≡ processors ∷ registersEach ∷ locations ∷ instructionsEach ∷ resultWords ∷ recordSize ∷ longestTrace ∷ tableRows ∷ [] ⌝ }
 {
     [
         Program::PROCESSORS,
@@ -66,5 +68,6 @@ pub fn limits() -> [usize; 7]
         Cells::WORDS,
         Record::BYTES,
         Program::LONGEST,
+        Role::KINDS,
     ]
 }

@@ -1,2 +1,3 @@
-// One record of eight bytes: read, and written.
+// One record of eight bytes: read, written, and the tests of its fields.
 pub mod bytes;
+pub mod fields;

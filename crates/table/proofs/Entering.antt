@@ -15,9 +15,8 @@ use Rattle.model.specs.Table.{extended, enter}
 use Rattle.model.specs.Code.{Columns, row, countIn, stepsIn, instructionAt, stepsFrom, processorAtStart, startOf, Fits}
 use Rattle.model.proofs.Rows.{row-set, row-set-other, places-apart, four-get, four-set}
 use Rattle.model.proofs.Columns.{steps-more, steps-same}
-use Rattle.table_initial.specs.Given.{Formed}
-use Rattle.table_initial.specs.Cells.{withMemory, withRegister}
-use Rattle.table_enter.specs.Enter.{withInstruction}
+use Rattle.table_record.specs.Given.{Formed}
+use Rattle.table_record.specs.Enter.{cellsWith, withInstruction}
 
 -- ---- one processor replaced
 
@@ -32,18 +31,18 @@ placed g h c d p P l m e o = λ i. record { processors = four-set (processorAtSt
 
 -- ---- initial memory
 
-pub memory-entered : (g : Columns) (c : Cells) (r : Record) → startOf g (withMemory c r) ≡ enter (startOf g c) (initialMemory (r .location) (r .value))
+pub memory-entered : (g : Columns) (c : Cells) (x v : ℕ) → startOf g (cellsWith c (initialMemory x v)) ≡ enter (startOf g c) (initialMemory x v)
 unfolding startOf processorAtStart enter withCell
-memory-entered g c r = refl
+memory-entered g c x v = refl
 
 -- ---- initial registers
 
 pub register-entered : (g : Columns) (c : Cells) (r : Record) → Formed r
-    → startOf g (withRegister c r) ≡ enter (startOf g c) (initialRegister (r .processor) (r .register) (r .value))
+    → startOf g (cellsWith c (initialRegister (r .processor) (r .register) (r .value))) ≡ enter (startOf g c) (initialRegister (r .processor) (r .register) (r .value))
 unfolding enter assigned processorAtStart
 register-entered g c r f =
     let p = r .processor in
-    placed g g c (withRegister c r) p _ (f .processor) refl
+    placed g g c (cellsWith c (initialRegister p (r .register) (r .value))) p _ (f .processor) refl
     (rw (own g c p (f .processor)) (λ k. record {
       todo = stepsFrom g p 0 (countIn g p);
       kept = 0;

@@ -8,14 +8,16 @@ use lib.Dec.{eqb}
 use borrow.Author.Tests.{eqb-true, eqb-false}
 use Rattle.model.specs.declared.record.Record.{Record}
 use Rattle.model.specs.Sizes.{processors, instructionsEach}
+use Rattle.model.specs.Kinds.{entryOf}
+use Rattle.model.specs.Reading.{isInstruction}
 use Rattle.model.specs.Code.{Columns, countIn, instructionAt, Fit, Fits}
 use Rattle.model.proofs.Bools.{one}
 use Rattle.model.proofs.Lists.{each}
-use Rattle.table_initial.specs.Given.{Formed}
-use Rattle.table_enter.specs.Enter.{withInstruction}
+use Rattle.table_record.specs.Given.{Formed}
+use Rattle.table_record.specs.Enter.{withInstruction}
 use Rattle.table.proofs.Entering.{count-own, count-other, at-own, at-before, at-elsewhere}
 
-pub fits-more : (g : Columns) (r : Record) → Formed r → Fits g → countIn g (r .processor) < instructionsEach → 2 < r .kind → Fits (withInstruction g r)
+pub fits-more : (g : Columns) (r : Record) → Formed r → Fits g → countIn g (r .processor) < instructionsEach → isInstruction (entryOf r) ≡ true → Fits (withInstruction g r)
 fits-more g r f fits room k = record {
   kinds = length-set (g .kinds) at (r .kind) ∙ fits .kinds;
   registers = length-set (g .registers) at (r .register) ∙ fits .registers;
@@ -38,7 +40,7 @@ fits-more g r f fits room k = record {
     own-fit : (a : ℕ) → a < suc n → p < processors → (b : Bool) → eqb a n ≡ b → Fit (instructionAt (withInstruction g r) p a)
     own-fit a l h true e =
         subst⁻¹ Fit (ap (instructionAt (withInstruction g r) p) (eqb-true a n e) ∙ at-own g r f fits room)
-        (record { low = omega (arith, k); high = f .kind; register = f .register; location = f .location })
+        (record { known = f .known .1; instruction = k; register = f .register; location = f .location })
     own-fit a l h false e =
         let o = eqb-false a n e in
         let m : a < n = omega arith in

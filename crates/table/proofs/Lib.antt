@@ -1,6 +1,6 @@
-pub mod Instructions
 pub mod Entering
 pub mod Fitting
 pub mod More
 pub mod Holding
 pub mod Turns
+pub mod Beginning

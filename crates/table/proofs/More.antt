@@ -50,6 +50,14 @@ flag-up l i x b h e = go (eqb i x) refl
     go true q = ap (λ (j : ℕ). getD (set l i true) j false) (sym (eqb-true i x q)) ∙ getD-set-same l i true false h ∙ sym (or-true b)
     go false q = getD-set-other l i x true false (λ z. eqb-false i x q (sym z)) ∙ e ∙ sym (or-false b)
 
+-- two places past the same n are one when the rest is
+pub same-place : (n x y : ℕ) → eqb (n + x) (n + y) ≡ eqb x y
+same-place n x y = go (eqb x y) refl
+  where
+    go : (b : Bool) → eqb x y ≡ b → eqb (n + x) (n + y) ≡ b
+    go true e = let z = eqb-true x y e in eq-eqb (n + x) (n + y) (omega arith)
+    go false e = ne-eqb (n + x) (n + y) (λ w. eqb-false x y e (omega arith))
+
 -- two registers are one cell when processor and register are the same
 pub cells-apart : (p q s t : ℕ) → q < registersEach → t < registersEach → eqb (registersEach * p + q) (registersEach * s + t) ≡ (eqb p s && eqb q t)
 cells-apart p q s t h k = go (eqb p s) (eqb q t) refl refl

@@ -23,10 +23,9 @@ use Rattle.model.specs.Code.{Columns, testedOf, Fits, Sized}
 use Rattle.model.proofs.Tests.{then-passed, then-refused}
 use Rattle.model.proofs.InOrder.{in-order-more, in-order-stop, file-whole, file-not-whole}
 use Rattle.model.proofs.Verdicts.{gives-none, gives-any}
-use Rattle.table_initial.specs.Given.{Given, Formed, crowdedIn, placeTests, notedIn}
-use Rattle.table_initial.specs.Cells.{cellsWith, ifPassed}
-use Rattle.table_initial.proofs.Forms.{formed}
-use Rattle.table_enter.specs.Enter.{programWith, Enters}
+use Rattle.table_record.specs.Given.{Given, Formed, crowdedIn, placeTests, notedIn}
+use Rattle.table_record.proofs.Forms.{formed}
+use Rattle.table_record.specs.Enter.{cellsWith, programWith, ifPassed, Enters}
 use Rattle.table.specs.Reads.{noProgram, noCells, Reads}
 use Rattle.table.proofs.Holding.{Holds, fits-none, sized-none, tests-agree, next-holds}
 
@@ -83,18 +82,18 @@ module _ (table : List ℕ) {g : Columns} {c : Cells} {s : Given} {n i : ℕ} {r
 
   judged : readRecord i (entries table i) r ≡ testedOf v with-r
   unfolding readRecord
-  judged = sym (gives-any v (ownTests r ++ placeTests s g r) i with-r (entered .gives) ∙ ap (λ o. unless o i (passed with-r)) (tests-agree g c s (entries table i) holds r))
+  judged = sym (gives-any v (ownTests r ++ placeTests s g (entryOf r)) i with-r (entered .gives) ∙ ap (λ o. unless o i (passed with-r)) (tests-agree g c s (entries table i) holds r))
 
   -- what there was before stays
   pub stops : (why : Refusal) (place : ℕ) → v ≡ Refused why place → Reads table (Refused why place) h d
   stops why place e =
       let j : readRecord i (entries table i) r ≡ refused (numberOf why) place = judged ∙ ap (λ (u : Verdict). testedOf u with-r) e in
       refuses table h d why place
-      (subst⁻¹ Fits (leaves (programWith g r) g e (entered .program)) (holds .fits)) (subst⁻¹ Sized (leaves (cellsWith c r) c e (entered .cells)) (holds .sized))
+      (subst⁻¹ Fits (leaves (programWith g r (entryOf r)) g e (entered .program)) (holds .fits)) (subst⁻¹ Sized (leaves (cellsWith c (entryOf r)) c e (entered .cells)) (holds .sized))
       (sym rest ∙ ap (inOrder readRecord i (entries table i)) more ∙ in-order-stop readRecord i (entries table i) r (recordsFrom table (suc i) (n - suc i)) (numberOf why) place j)
 
-  clear : v ≡ Passed → Formed r × (crowdedIn instructionsEach g r ≡ false)
-  clear e = let a = gives-none v (ownTests r ++ placeTests s g r) i (entered .gives) e in (formed r (a .0) (a .1 .0) (a .1 .1 .0), a .1 .1 .1 .1 .1 .0)
+  clear : v ≡ Passed → Formed r × (crowdedIn g (entryOf r) ≡ false)
+  clear e = let a = gives-none v (ownTests r ++ placeTests s g (entryOf r)) i (entered .gives) e in (formed r (a .0) (a .1 .0) (a .1 .1 .0), a .1 .1 .1 .1 .1 .0)
 
   grown : with-r ≡ entries table (i + 1)
   unfolding entries
@@ -103,7 +102,7 @@ module _ (table : List ℕ) {g : Columns} {c : Cells} {s : Given} {n i : ℕ} {r
   pub holds-on : v ≡ Passed → Holds h d w (entries table (i + 1))
   holds-on e =
       let f = clear e in
-      rw (leaves (programWith g r) g e (entered .program), leaves (cellsWith c r) c e (entered .cells), leaves (notedIn s r) s e (entered .given), ← grown)
+      rw (leaves (programWith g r (entryOf r)) g e (entered .program), leaves (cellsWith c (entryOf r)) c e (entered .cells), leaves (notedIn s (entryOf r)) s e (entered .given), ← grown)
       (next-holds g c s (entries table i) holds r (f .0) (f .1))
 
   pub goes-on : v ≡ Passed → onward table n (i + 1) ≡ reading table

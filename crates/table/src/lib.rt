@@ -1,2 +1,3 @@
 // Reading a table (document 01, numbers 1 to 7).
-pub mod read;
+pub mod in_place;
+mod read;

@@ -9,7 +9,7 @@ use model::record::Record;
 use model::table::Cells;
 use model::table::Program;
 use record::bytes;
-use table_enter::enter;
+use table_record::enter;
 
 // The program and the cells that a table gives, if it is not refused. Codes, registers and memory are zero before.
 pub fn read<'a>(
@@ -30,22 +30,12 @@ pub fn read<'a>(
     if n == 0 {
         return Verdict::Passed;
     }
-    let mut assigned = [false; Cells::ALL_REGISTERS];
-    let mut filled = [false; Cells::LOCATIONS];
+    let mut given = [false; Cells::WORDS];
     let mut begun = false;
     let mut i = 0;
     while i < n {
         let r = bytes::read_record(table, i);
-        match enter::enter_record(
-            codes,
-            constants,
-            cells,
-            &mut assigned,
-            &mut filled,
-            &mut begun,
-            i,
-            r,
-        ) {
+        match enter::enter_record(codes, constants, cells, &mut given, &mut begun, i, r) {
             Verdict::Refused(why, place) => return Verdict::Refused(why, place),
             Verdict::Passed => i += 1,
         }

@@ -17,8 +17,8 @@ use Rattle.model.specs.Calls.{stepTests}
 use Rattle.model.proofs.Fields.{known-test}
 use Rattle.model.proofs.Rows.{below}
 use Rattle.model.proofs.Verdicts.{met, past, none-left}
-use Rattle.fields.specs.Fields.{rowOf, tooLargeBy, notZeroBy}
-use Rattle.fields.proofs.Tests.{unknown-none, unknown-above, too-large-is, not-zero-is}
+use Rattle.record.specs.Fields.{rowOf, tooLargeBy, notZeroBy}
+use Rattle.record.proofs.Tests.{unknown-none, unknown-above, too-large-is, not-zero-is}
 
 rows : length stepUses ≡ 8
 unfolding stepUses

@@ -4,17 +4,18 @@ ghost use Rattle.model.specs.Calls.{stepTests};
 ghost use Rattle.model.specs.Code.{Gives};
 ghost use Rattle.model.specs.Fields.{Known};
 ghost use Rattle.model.specs.Kinds.{stepUses};
-ghost use Rattle.fields.specs.Fields.{rowOf};
+ghost use Rattle.record.specs.Fields.{rowOf};
+use machine_rules::program::DRAIN;
+use machine_rules::program::FENCE;
+use machine_rules::program::LOCAL;
+use machine_rules::program::LOCK;
+use machine_rules::program::READ;
+use machine_rules::program::UNLOCK;
+use machine_rules::program::WRITE;
 use model::answer::Refusal;
 use model::answer::Verdict;
 use model::record::Record;
-use rules::program::DRAIN;
-use rules::program::FENCE;
-use rules::program::LOCAL;
-use rules::program::LOCK;
-use rules::program::READ;
-use rules::program::UNLOCK;
-use rules::program::WRITE;
+use record::fields;
 
 // Test 10 of record i, whose kind uses these of processor, register, location, value. Its kind is known.
 fn tested(used: [bool; 4], i: usize, e: Record) -> Verdict

@@ -3,8 +3,8 @@ ghost use Rattle.machine_state.specs.Packed.{stateOf, columnsOf};
 ghost use Rattle.machine.specs.Ready.{Ready};
 ghost use Rattle.trace.specs.Follows.{Follows};
 use crate::look;
+use machine_in_place::in_place;
 use machine_state::state::Machine;
-use machine_thin::in_place;
 use model::answer::Verdict;
 use model::table::Program;
 

@@ -1,22 +1,23 @@
 use borrow.Author.Needs.{needs}
-use borrow.Author.Tests.{eq-eqb, ne-eqb}
+use mathlib.Core.Bool.{false}
+use mathlib.Core.List.{[], _∷_}
+use mathlib.Core.Path.{_≡_, refl}
+use Rattle.model.specs.Code.{acts}
+use Rattle.model.proofs.Bools.{false-true}
+use Rattle.model.proofs.Roles.{by-tag}
 use Rattle.machine_store.proofs.receive.Statement.{statement}
 use Rattle.machine_store.proofs.receive.Tie as tie
 
 returns : tie.Need-returns
-returns c = rw (eq-eqb _ _ (c .if1 .taken))
+returns c = rw (← c .before .before .role-of .ensures, c .enum-told .given .1)
 
 returns-2 : tie.Need-returns-2
-returns-2 c = rw (ne-eqb _ _ (c .if1 .left))
+returns-2 c =
+    rw (
+      ← c .before .role-of .ensures,
+      by-tag (λ o. acts o .loads ≡ false) (0 ∷ 1 ∷ 2 ∷ 3 ∷ 4 ∷ 6 ∷ 7 ∷ 8 ∷ 9 ∷ [])
+          (λ t. refl) (λ t. refl) (λ t. refl) (λ t. refl) (λ t. refl) false-true (λ t. refl) (λ t. refl) (λ t. refl) (λ t. refl) (c .before .role-of .result) (c .match .keys2),
+    )
 
 pub receive-spec : {M : Type 1} → statement M
-receive-spec =
-    tie.close
-    (tie.spec
-    (λ c. search needs)
-    (λ c. search needs)
-    (λ c. search needs)
-    (λ c. search needs)
-    (λ c. search needs)
-    returns
-    returns-2)
+receive-spec = tie.close (tie.spec (λ c κs. search needs) (λ c. search needs) (λ c. search needs) (λ c. search needs) (λ c. search needs) (λ c. search needs) (λ c. search needs) returns returns-2)

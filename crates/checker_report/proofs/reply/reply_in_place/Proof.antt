@@ -37,15 +37,15 @@ use denote.Triple.Clauses.{ensured, lasts}
 use denote.Triple.Table.{entered, cited}
 use denote.Triple.Walked.{says, needs, Stays, stay-none, stay-none-ref, stay-none-slice, gave-slice, walkOf, AllGo, goes-none, goes-none-ref, goes-none-slice, goes-gave-slice, Walks, ends-at, walked, walk-meets}
 use denote.Exit.{yes}
-use Rattle.machine_thin.proofs.Fields.{Names, args, vals, Shareds, SharedAt}
+use Rattle.machine_in_place.proofs.Fields.{Names, args, vals, Shareds, SharedAt}
 use Rattle.model.specs.declared.answer.Verdict.{Verdict}
 use Rattle.model.proofs.answer.Verdict as D
 use Rattle.model.proofs.answer.Verdict.Laws as D′
 use Rattle.model.specs.declared.answer.Answer.{Answer}
 use Rattle.model.proofs.answer.Answer as B
 use Rattle.model.proofs.answer.Answer.Laws as B′
-use Rattle.machine_thin.proofs.Parted.{part-shares, kept-share, shares-parts, unshares-parts}
-use Rattle.machine_thin.proofs.Structs.{program, machine}
+use Rattle.machine_in_place.proofs.Parted.{part-shares, kept-share, shares-parts, unshares-parts}
+use Rattle.machine_in_place.proofs.Structs.{program, machine}
 use Rattle.model.specs.declared.table.Program.{Program}
 use Rattle.model.proofs.table.Program as G
 use Rattle.machine_state.specs.declared.state.Machine.{Machine}

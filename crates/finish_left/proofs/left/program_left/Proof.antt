@@ -6,7 +6,7 @@ use lib.ListN.{getD}
 use lib.Dec.{eqb}
 use borrow.Author.Needs.{needs}
 use borrow.Author.Tests.{eq-eqb, ne-eqb}
-use Rattle.rules.specs.Steps.{stepKind, stepCount}
+use Rattle.machine_rules.specs.Steps.{stepKind, stepCount}
 use Rattle.machine_state.specs.Packed.{kindsIn, atIn, phaseIn}
 use Rattle.machine_state.proofs.Rows.{at-is, phase-is}
 use Rattle.finish_left.specs.Weight.{kindAt, programLeft}

@@ -4,7 +4,7 @@ use borrow.Author.Needs.{needs}
 use borrow.Author.Tests.{eq-eqb, ne-eqb, not-true, not-false}
 use Rattle.model.specs.Sizes.{processors}
 use Rattle.machine_state.specs.Packed.{countsIn, atIn, issuedIn, drainedIn}
-use Rattle.machine_finished.specs.Finished.{doneAt}
+use Rattle.machine_state.specs.Finished.{doneAt}
 use Rattle.finish_left.specs.Mover.{moverIn}
 use Rattle.finish_left.proofs.Movers.{Searched, begins, ends, found, goes-on}
 use Rattle.finish_left.proofs.mover.mover.Statement.{statement}

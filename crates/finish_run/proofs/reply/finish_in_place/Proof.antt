@@ -39,15 +39,15 @@ use denote.Triple.Clauses.{ensured, lasts}
 use denote.Triple.Table.{entered, cited}
 use denote.Triple.Walked.{says, needs, Stays, stay-ref, stay-none, stay-none-ref, gave-slice, walkOf, AllGo, goes-none, goes-none-ref, goes-gave-slice, goes-ref, Walks, ends-at, walked, walk-meets}
 use denote.Exit.{yes}
-use Rattle.machine_thin.proofs.Fields.{Names, Args, Vals, args, vals, Mutables, Shareds, Lasts, lasts-apart}
+use Rattle.machine_in_place.proofs.Fields.{Names, Args, Vals, args, vals, Mutables, Shareds, Lasts, lasts-apart}
 use Rattle.model.specs.declared.answer.Verdict.{Verdict}
 use Rattle.model.proofs.answer.Verdict as D
 use Rattle.model.proofs.answer.Verdict.Laws as D′
 use Rattle.model.specs.declared.answer.Answer.{Answer}
 use Rattle.model.proofs.answer.Answer as B
 use Rattle.model.proofs.answer.Answer.Laws as B′
-use Rattle.machine_thin.proofs.Parted.{part-shares, kept, lends-parts, backs-parts, kept-share, shares-parts, unshares-parts}
-use Rattle.machine_thin.proofs.Structs.{program, machine}
+use Rattle.machine_in_place.proofs.Parted.{part-shares, kept, lends-parts, backs-parts, kept-share, shares-parts, unshares-parts}
+use Rattle.machine_in_place.proofs.Structs.{program, machine}
 use Rattle.model.specs.declared.table.Program.{Program}
 use Rattle.model.proofs.table.Program as G
 use Rattle.machine_state.specs.declared.state.Machine.{Machine}

@@ -3,7 +3,7 @@ use native.Mathlib.Omega.{arith}
 use mathlib.Core.Path.{_≡_, sym, _∙_}
 use Prim.Native.Nat.{_<_, _≤_}
 use lib.ListN.{getD}
-use Rattle.rules.specs.Steps.{stepKind}
+use Rattle.machine_rules.specs.Steps.{stepKind}
 use Rattle.machine_state.specs.Packed.{standsAt, phaseAt, countsIn}
 use Rattle.machine.proofs.Propers.{low-processor}
 use Rattle.machine.proofs.Taking.{can-drain, drains-it, at-the-end, below, known-kind, another, may-take, onwards, takes-it, turns-it}

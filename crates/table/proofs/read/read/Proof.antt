@@ -5,7 +5,7 @@ use native.Mathlib.Omega.{arith}
 use lib.ListN.{length}
 use Rattle.model.specs.Reading.{reading}
 use Rattle.machine_state.specs.Packed.{keptIn, cellsIn, columnsIn}
-use Rattle.table_initial.specs.Given.{flags}
+use Rattle.table_record.specs.Given.{flags}
 use Rattle.table.proofs.Holding.{Holds, holds-none}
 use Rattle.table.proofs.Turns.{entries, onward, odd, begins, ends, stops, holds-on, goes-on}
 use Rattle.table.proofs.read.read.Statement.{statement}
@@ -13,12 +13,12 @@ use Rattle.table.proofs.read.read.Tie as tie
 
 -- The arrays hold what the records so far give, what is left of the table gives what the whole gives, and what is kept aside stays.
 abbrev Inv-loop : tie.InvT-loop
-Inv-loop codes₀ constants₀ cells₀ table n assigned₀ filled₀ begun₀ i₀ codes constants cells assigned filled begun i =
-    (n ≡ length table / 8) × Holds (columnsIn codes constants) (cellsIn cells) (flags assigned filled begun) (entries table i)
+Inv-loop codes₀ constants₀ cells₀ table n given₀ begun₀ i₀ codes constants cells given begun i =
+    (n ≡ length table / 8) × Holds (columnsIn codes constants) (cellsIn cells) (flags given begun) (entries table i)
     × (onward table n i ≡ reading table) × (keptIn cells ≡ keptIn cells₀)
 
 abbrev μ-loop : tie.MeasureT-loop
-μ-loop codes₀ constants₀ cells₀ table n assigned₀ filled₀ begun₀ i₀ codes constants cells assigned filled begun i = n - i
+μ-loop codes₀ constants₀ cells₀ table n given₀ begun₀ i₀ codes constants cells given begun i = n - i
 
 returns : tie.Need-returns Inv-loop μ-loop
 returns c = let s = c .before .before in (odd (s .args .table .now) _ _ (s .pre) (c .if1 .taken), refl)
@@ -41,7 +41,7 @@ read-record-requires c κs = let t = c .loop-test .taken in let e = c .before .l
 returns-3 : tie.Need-returns-3 Inv-loop μ-loop
 returns-3 c =
     let call = c .before .before .before in
-    let read = call .before .before .before .before .before .before .before in
+    let read = call .before .before .before .before .before .before in
     let top = read .before .before in
     let l = top .loop in
     let e = call .enter-record .ensures in (
@@ -51,19 +51,19 @@ returns-3 c =
 
 add-i : tie.Need-add-i Inv-loop μ-loop
 add-i c =
-    let turn = c .before .before .before .before .before .before .before .before .before .before in
+    let turn = c .before .before .before .before .before .before .before .before .before in
     let l = turn .loop-test .taken in
     let e = turn .before .loop .inv .0 in
     let short = turn .before .before .before .before .before .good .1 .1 .1 .0 in
     search needs
 
 loop-less : tie.Need-loop-less Inv-loop μ-loop
-loop-less c = let l = c .before .before .before .before .before .before .before .before .before .before .loop-test .taken in omega arith
+loop-less c = let l = c .before .before .before .before .before .before .before .before .before .loop-test .taken in omega arith
 
 loop-again : tie.Need-loop-again Inv-loop μ-loop
 loop-again c =
     let call = c .before .before in
-    let read = call .before .before .before .before .before .before .before in
+    let read = call .before .before .before .before .before .before in
     let top = read .before .before in
     let table = top .before .before .before .before .args .table .now in
     let l = top .loop in

@@ -152,10 +152,10 @@ use Rattle.trace.proofs.look.look as look
 use Rattle.trace.proofs.look.look.Symbol as look-def
 use Rattle.trace.proofs.look.look.Symbol.{name as #look}
 use Rattle.trace.proofs.look.look.Met as look-thm
-use Rattle.machine_thin.proofs.in_place.step_in_place as step
-use Rattle.machine_thin.proofs.in_place.step_in_place.Symbol as step-def
-use Rattle.machine_thin.proofs.in_place.step_in_place.Symbol.{name as #step}
-use Rattle.machine_thin.proofs.in_place.step_in_place.Met as step-thm
+use Rattle.machine_in_place.proofs.in_place.step_in_place as step
+use Rattle.machine_in_place.proofs.in_place.step_in_place.Symbol as step-def
+use Rattle.machine_in_place.proofs.in_place.step_in_place.Symbol.{name as #step}
+use Rattle.machine_in_place.proofs.in_place.step_in_place.Met as step-thm
 use Rattle.trace.proofs.look.verdict_at as verdict-at
 use Rattle.trace.proofs.look.verdict_at.Symbol as verdict-at-def
 use Rattle.trace.proofs.look.verdict_at.Symbol.{name as #verdict-at}
@@ -517,7 +517,7 @@ follow-in-place-spec 𝓤 H 𝓜 𝓖 𝓡 =
     (f-meets 𝓤 H (𝓖 .A) (givenOf 𝓤 H 𝓜 𝓖) (𝓜 .mem) (𝓡 .run) (tablesOf 𝓤 H 𝓜 (tables 𝓤 H 𝓜 𝓡 code.env))
     (record {
       of-look = cited 𝓤 H (On-look 𝓤 H (𝓖 .A) (𝓜 .mem) (𝓡 .run)) 𝓜 𝓡 code.env #look look-def.routine code.calls-trace·look·look (look-thm.met 𝓤 H 𝓜 𝓖 𝓡);
-      of-step = cited 𝓤 H (On-step 𝓤 H (𝓖 .A) (𝓜 .mem) (𝓡 .run)) 𝓜 𝓡 code.env #step step-def.routine code.calls-machine-thin·in-place·step-in-place (step-thm.met 𝓤 H 𝓜 𝓖 𝓡);
+      of-step = cited 𝓤 H (On-step 𝓤 H (𝓖 .A) (𝓜 .mem) (𝓡 .run)) 𝓜 𝓡 code.env #step step-def.routine code.calls-machine-in-place·in-place·step-in-place (step-thm.met 𝓤 H 𝓜 𝓖 𝓡);
       of-verdict-at = cited 𝓤 H (On-verdict-at 𝓤 H (𝓖 .A) (𝓜 .mem) (𝓡 .run)) 𝓜 𝓡 code.env #verdict-at verdict-at-def.routine code.calls-trace·look·verdict-at (verdict-at-thm.met 𝓤 H 𝓜 𝓖 𝓡);
       of-concluded = cited 𝓤 H (On-concluded 𝓤 H (𝓖 .A) (𝓜 .mem) (𝓡 .run)) 𝓜 𝓡 code.env #concluded concluded-def.routine code.calls-trace·look·concluded (concluded-thm.met 𝓤 H 𝓜 𝓖 𝓡);
     }))

@@ -1,0 +1,4 @@
+pub mod Forms
+pub mod Packed
+pub mod Columns
+pub mod Entered
