@@ -78,7 +78,7 @@ module _ (g : Columns) (fits : Fits g) (p : ℕ) (h : p < processors) where
   kinds-from a zero l = refl
   kinds-from a (suc n) l =
       map-append kindOf (stepsAt g p a) (stepsFrom g p (suc a) n)
-      ∙ (λ j. same-kinds (instructionAt g p a) (fits .each p a h (omega arith) .known) j ++ kinds-from (suc a) n (omega arith) j)
+      ∙ (λ j. same-kinds (instructionAt g p a) (fits .each p a h (omega arith) .kind) j ++ kinds-from (suc a) n (omega arith) j)
 
   program-left : (a f : ℕ) → a ≤ countIn g p → programLeft (g .kinds) p (countIn g p) a f ≡ length (leftFrom g p a f) + writes (leftFrom g p a f)
   program-left a f l =
@@ -113,7 +113,7 @@ module _ (g : Columns) (m : State) (ready : Ready g m) where
       program = record {
         processor = h;
         few = ready .fits .few p;
-        each = λ b l. (ready .fits .each p b h l .known, stands-first g p b (ready .fits) h (omega arith) .inside l);
+        each = λ b l. (ready .fits .each p b h l .kind, stands-first g p b (ready .fits) h (omega arith) .inside l);
         inside = at .stands .inside;
       };
       order = at .order;

@@ -40,7 +40,7 @@ module _ (g : Columns) (m : State) (ready : Ready g m) where
           let n = eqb-false a (countIn g p) e in
           let o = r .stands .at in
           let l : a < countIn g p = omega arith in
-          rw (next-left g p a (getD (m .phase) p 0) (ready .fits .each p a h l .known) l (r .stands .inside l))
+          rw (next-left g p a (getD (m .phase) p 0) (ready .fits .each p a h l .kind) l (r .stands .inside l))
 
   pub done-is : (p : ℕ) → p < processors → isDone (processorOf g m p) ≡ done p
   unfolding isDone processorOf

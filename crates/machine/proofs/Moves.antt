@@ -14,7 +14,7 @@ use Rattle.model.specs.Sizes.{processors, registersEach, instructionsEach}
 use Rattle.model.specs.Program.{ProgramStep, write, into, aside}
 use Rattle.model.specs.Kinds.{tableRows}
 use Rattle.model.specs.Machine as model
-use Rattle.model.specs.Machine.{Processor, WaitingWrite, writeOf, free, held, processor, issued, exchanged, advanced, assigned, received, wrote, drained, withProcessor, withCell, withHolder}
+use Rattle.model.specs.Machine.{Processor, WaitingWrite, writeOf, free, held, processor, issued, advanced, assigned, received, wrote, drained, withProcessor, withCell, withHolder}
 use Rattle.model.specs.Rules.{Event, event, R, W, F, L, U, N}
 use Rattle.model.specs.Step.{Move, move, drainMove, nextMove, newest, seen, isEmpty}
 use Rattle.model.specs.Left.{writes}

@@ -144,7 +144,7 @@ pub stands-first : (g : Columns) (p a : ℕ) → Fits g → p < processors → a
 stands-first g p a fits h l = record {
   at = l;
   phase = lit< tt;
-  inside = λ o. let t = fits .each p a h o in some-steps (instructionAt g p a) (t .known) (t .instruction);
+  inside = λ o. let t = fits .each p a h o in some-steps (instructionAt g p a) (t .kind) (t .instruction);
 }
 
 -- past one step

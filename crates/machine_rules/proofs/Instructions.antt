@@ -19,7 +19,7 @@ record Ranged (p : ℕ) (i : Record) : Type 0 where
 
 ranged : (g : Columns) (p a : ℕ) → Fits g → p < processors → (b : Bool) → ltb a (countIn g p) ≡ b → Ranged p (cond b (instructionAt g p a) (event 0 p 0 0))
 unfolding instructionAt tableUses
-ranged g p a s h true e = let t = s .each p a h (ltb-true a (countIn g p) e) in record { processor = refl; kind = t .known; register = t .register; location = t .location }
+ranged g p a s h true e = let t = s .each p a h (ltb-true a (countIn g p) e) in record { processor = refl; kind = t .kind; register = t .register; location = t .location }
 ranged g p a s h false e = record { processor = refl; kind = lit< tt; register = lit< tt; location = lit< tt }
 
 pub fetched-is : (g : Columns) (p a : ℕ) → Fits g → p < processors → (i : Record) → i ≡ fetched g p a → Fetched g p a i

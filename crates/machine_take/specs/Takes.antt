@@ -3,12 +3,12 @@
 use mathlib.Core.Path.{_≡_}
 use mathlib.Core.Bool.{Bool, false, cond, _&&_}
 use mathlib.Core.List.{List}
-use Prim.Native.Nat.{ℕ, _+_, _*_, _<_}
+use Prim.Native.Nat.{ℕ, _<_}
 use lib.ListN.{getD, set}
 use lib.Dec.{eqb}
 use Rattle.model.specs.declared.answer.Attempt.{Attempt}
 use Rattle.model.specs.declared.answer.Attempt.the-variants.{Taken}
-use Rattle.model.specs.Code.{placeAt, actsOf, taken, judged}
+use Rattle.model.specs.Code.{registerAt, placeAt, actsOf, taken, judged}
 use Rattle.model.specs.declared.record.Record.{Record}
 use Rattle.model.specs.Sizes as sizes
 use Rattle.model.specs.Sizes.{processors, registersEach}
@@ -24,7 +24,7 @@ names e y w = eqb (e .location) y && eqb (e .value) w
 
 -- the register of the instruction
 abbrev pub cellOf : Record → Record → ℕ
-cellOf i e = registersEach * e .processor + i .register
+cellOf i e = registerAt (e .processor) (i .register)
 
 abbrev pub emptyIn : List ℕ → ℕ → Bool
 emptyIn marks p = eqb (getD marks (drainedAt p) 0) (getD marks (issuedAt p) 0)

@@ -1,38 +1,28 @@
 -- Roles: what holds of each, and what the role of a record's kind says of its entry.
-use mathlib.Core.Path.{_≡_, refl, sym, _∙_, subst}
+use mathlib.Core.Path.{_≡_, refl, sym, ap, _∙_, subst}
 use mathlib.Core.Logic.{inl, inr}
-use mathlib.Core.Bool.{Bool, true, false, _||_, or-true}
+use mathlib.Core.Bool.{Bool, true, false}
 use mathlib.Core.List.{List, [], _∷_, map}
-use Prim.Native.Nat.{ℕ, zero, suc, _≤_, _<_}
+use Prim.Native.Nat.{ℕ, zero, suc, _<_}
 use native.Mathlib.Omega.{arith}
-use lib.Dec.{eqb, ltb}
-use borrow.Author.Tests.{eq-eqb, ltb-true, ltb-false}
+use lib.Dec.{ltb}
+use borrow.Author.Tests.{ltb-true, ltb-false}
 use types.Run.{OneOf}
 use denote.Enum.Declared.{tagOf}
-use lib.ListN.{length, getD, List·getD-eq-default}
+use lib.ListN.{getD, List·getD-eq-default}
 use Rattle.model.specs.declared.record.Record.{Record}
 use Rattle.model.specs.declared.kind.Role.{Role}
 use Rattle.model.specs.declared.kind.Role.the-variants.{Unknown, InitialMemory, InitialRegister, StoreConstant, StoreRegister, Load, SetRegister, Fence, Exchange, ExchangeAdd}
+use Rattle.model.specs.Lists.{All}
 use Rattle.model.specs.Fields.{Known}
 use Rattle.model.specs.Tests.{unknown}
-use Rattle.model.specs.Program.{Instruction, storeConstant, storeRegister, load, setRegister, mfence, exchange, lockedExchange, exchangeAdd, lockedExchangeAdd}
+use Rattle.model.specs.Program.{Instruction}
 use Rattle.model.specs.Kinds.{Entry, Kind, initialMemory, initialRegister, instruction, tableKinds, tableUses, tableRows, entryOf}
 use Rattle.model.specs.Code.{roleIn, roleOf}
 use Rattle.model.proofs.kind.Role.{the-type}
 use Rattle.model.proofs.Bools.{false-true}
 use Rattle.model.proofs.Fields.{known-test}
 use Rattle.model.proofs.Rows.{below}
-
--- a number is one of these
-abbrev pub oneOf : List ℕ → ℕ → Bool
-oneOf [] n = false
-oneOf (k ∷ ks) n = eqb n k || oneOf ks n
-
-told : (ks : List ℕ) (n : ℕ) → OneOf ks n → oneOf ks n ≡ true
-told [] n e = absurd e
-told (k ∷ []) n e = rw (eq-eqb n k e)
-told (k ∷ l ∷ ks) n (inl e) = rw (eq-eqb n k e)
-told (k ∷ l ∷ ks) n (inr h) = rw (told (l ∷ ks) n h) (or-true (eqb n k))
 
 -- what holds of each role holds of any
 pub by-role : (K : Role → Type 0) → K Unknown → K InitialMemory → K InitialRegister → K StoreConstant → K StoreRegister → K Load → K SetRegister → K Fence → K Exchange → K ExchangeAdd
@@ -48,11 +38,28 @@ by-role K a b c d e f g h i j Fence = h
 by-role K a b c d e f g h i j Exchange = i
 by-role K a b c d e f g h i j ExchangeAdd = j
 
--- what holds of each role that has one of these tags
-pub by-tag : (K : Role → Type 0) (ts : List ℕ) → (oneOf ts 0 ≡ true → K Unknown) → (oneOf ts 1 ≡ true → K InitialMemory) → (oneOf ts 2 ≡ true → K InitialRegister)
-    → (oneOf ts 3 ≡ true → K StoreConstant) → (oneOf ts 4 ≡ true → K StoreRegister) → (oneOf ts 5 ≡ true → K Load) → (oneOf ts 6 ≡ true → K SetRegister)
-    → (oneOf ts 7 ≡ true → K Fence) → (oneOf ts 8 ≡ true → K Exchange) → (oneOf ts 9 ≡ true → K ExchangeAdd) → (o : Role) → OneOf ts (tagOf the-type o) → K o
-by-tag K ts a b c d e f g h i j o t = by-role (λ o. oneOf ts (tagOf the-type o) ≡ true → K o) a b c d e f g h i j o (told ts (tagOf the-type o) t)
+-- ---- where a role is told by an arm of a `match`: its tag is one of those of the roles that the arm names
+
+abbrev pub tag : Role → ℕ
+tag = tagOf the-type
+
+-- the role of a tag
+roleAt : ℕ → Role
+roleAt n = getD (Unknown ∷ InitialMemory ∷ InitialRegister ∷ StoreConstant ∷ StoreRegister ∷ Load ∷ SetRegister ∷ Fence ∷ Exchange ∷ ExchangeAdd ∷ []) n Unknown
+
+one-tag : (o a : Role) → tag o ≡ tag a → a ≡ o
+unfolding roleAt
+one-tag o a e = sym (back a) ∙ ap roleAt (sym e) ∙ back o
+  where
+    back : (o : Role) → roleAt (tag o) ≡ o
+    back = by-role (λ o. roleAt (tag o) ≡ o) refl refl refl refl refl refl refl refl refl refl
+
+-- what holds of the roles that an arm names holds of the one that came to it
+pub by-arm : (K : Role → Type 0) (os : List Role) → All K os → (o : Role) → OneOf (map tag os) (tag o) → K o
+by-arm K [] h o t = absurd t
+by-arm K (a ∷ []) h o t = subst K (one-tag o a t) (h .0)
+by-arm K (a ∷ b ∷ os) h o (inl t) = subst K (one-tag o a t) (h .0)
+by-arm K (a ∷ b ∷ os) h o (inr t) = by-arm K (b ∷ os) (h .1) o t
 
 -- every role but one
 abbrev pub Named : Role → Type 0
@@ -120,14 +127,17 @@ module _ (r : Record) where
       is e = rw (e .1) (i (e .0) (e .1))
 
   -- where its role is told, or told to be none of the two initial ones
+  abbrev others : List Role
+  others = Unknown ∷ StoreConstant ∷ StoreRegister ∷ Load ∷ SetRegister ∷ Fence ∷ Exchange ∷ ExchangeAdd ∷ []
+
   module _ (known : Known tableUses r) (role : Role) (is : role ≡ roleOf (r .kind)) where
     pub entry-as : (o : Role) → role ≡ o → Says o (r .kind)
     entry-as o e = subst (λ (a : Role). Says a (r .kind)) (sym is ∙ e) (entry-is known)
 
-    pub instruction-as : OneOf (0 ∷ 3 ∷ 4 ∷ 5 ∷ 6 ∷ 7 ∷ 8 ∷ 9 ∷ []) (tagOf the-type role) → SomeInstruction (r .kind)
+    pub instruction-as : OneOf (map tag others) (tag role) → SomeInstruction (r .kind)
     instruction-as t =
-        by-tag (λ o. Says o (r .kind) → SomeInstruction (r .kind)) (0 ∷ 3 ∷ 4 ∷ 5 ∷ 6 ∷ 7 ∷ 8 ∷ 9 ∷ []) (λ t s. absurd s) false-true false-true
-        (λ t s. s) (λ t s. s) (λ t s. s) (λ t s. s) (λ t s. s) (λ t s. s) (λ t s. s) role t (entry-as role refl)
+        by-arm (λ o. Says o (r .kind) → SomeInstruction (r .kind)) others
+        (λ h. absurd h, (λ h. h, (λ h. h, (λ h. h, (λ h. h, (λ h. h, (λ h. h, (λ h. h, tt)))))))) role t (entry-as role refl)
 
   -- ---- whether its kind is known
 

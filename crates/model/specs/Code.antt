@@ -103,9 +103,13 @@ actsOf kind = acts (roleOf kind)
 abbrev pub row : ℕ → ℕ → List ℕ → List ℕ
 row w p xs = slice (w * p) (w * p + w) xs
 
--- the register of a record, among all registers
+-- register r of processor p, among all registers
+abbrev pub registerAt : ℕ → ℕ → ℕ
+registerAt p r = registersEach * p + r
+
+-- the register of a record
 abbrev pub registerOf : Record → ℕ
-registerOf r = registersEach * r .processor + r .register
+registerOf r = registerAt (r .processor) (r .register)
 
 -- place n of processor p, in an array that has room for all instructions
 abbrev pub placeAt : ℕ → ℕ → ℕ
@@ -171,7 +175,7 @@ startOf g c = record { processors = four (processorAtStart g c); memory = c .mem
 
 -- an instruction's record: its fields are in range
 pub record Fit (r : Record) : Type 0 where
-  pub known : r .kind < tableRows
+  pub kind : r .kind < tableRows
   pub instruction : isInstruction (entryOf r) ≡ true
   pub register : r .register < registersEach
   pub location : r .location < locations

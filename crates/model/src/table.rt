@@ -56,7 +56,7 @@ impl Cells {
     pub const WORDS: usize = Self::ALL_REGISTERS + Self::LOCATIONS;
 }
 
-// The limits above are those of the definitions.
+// The limits of the code are those of the definitions.
 pub fn limits() -> [usize; 8]
     ensures { λ r. ⌜ r ≡ processors ∷ registersEach ∷ locations ∷ instructionsEach ∷ resultWords ∷ recordSize ∷ longestTrace ∷ tableRows ∷ [] ⌝ }
 {

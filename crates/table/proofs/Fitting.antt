@@ -40,7 +40,7 @@ fits-more g r f fits room k = record {
     own-fit : (a : ℕ) → a < suc n → p < processors → (b : Bool) → eqb a n ≡ b → Fit (instructionAt (withInstruction g r) p a)
     own-fit a l h true e =
         subst⁻¹ Fit (ap (instructionAt (withInstruction g r) p) (eqb-true a n e) ∙ at-own g r f fits room)
-        (record { known = f .known .1; instruction = k; register = f .register; location = f .location })
+        (record { kind = f .known .1; instruction = k; register = f .register; location = f .location })
     own-fit a l h false e =
         let o = eqb-false a n e in
         let m : a < n = omega arith in

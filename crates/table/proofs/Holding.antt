@@ -3,7 +3,7 @@ use mathlib.Core.Path.{_≡_, refl, sym, ap, _∙_}
 use mathlib.Core.Bool.{Bool, true, false, cond, _||_, or-false, or-true}
 use mathlib.Core.Option.{some, none}
 use mathlib.Core.List.{List, [], _∷_, _++_}
-use Prim.Native.Nat.{ℕ, _+_, _*_, _<_}
+use Prim.Native.Nat.{ℕ, _+_, _<_}
 use native.Mathlib.Omega.{arith}
 use lib.ListN.{length, getD, length-set}
 use lib.Seq.{getD-set-other}
@@ -18,7 +18,7 @@ use Rattle.model.specs.Kinds.{Entry, initialMemory, initialRegister, instructio
 use Rattle.model.specs.Table.{instructionsOf, empty, enter, enterAll, start}
 use Rattle.model.specs.Tests.{first, unknown, tooLarge, notZero}
 use Rattle.model.specs.Reading.{any, isInstruction, givesMemory, givesRegister, late, again, crowded, ownTests, tableTests}
-use Rattle.model.specs.Code.{Columns, countIn, stepsFrom, processorAtStart, startOf, Fits, Sized}
+use Rattle.model.specs.Code.{Columns, registerAt, registerOf, countIn, stepsFrom, processorAtStart, startOf, Fits, Sized}
 use Rattle.model.proofs.Bools.{one}
 use Rattle.model.proofs.Readable.{isOf}
 use Rattle.model.proofs.Rows.{alike}
@@ -40,7 +40,7 @@ pub record Holds (g : Columns) (c : Cells) (s : Given) (es : List Entry) : Type 
   pub counts : (p : ℕ) → countIn g p ≡ instructionsOf p es
   pub begun : s .instruction ≡ any isInstruction es
   pub memory : (x : ℕ) → getD (s .cells) (memoryAt x) false ≡ any (givesMemory x) es
-  pub registers : (p r : ℕ) → p < processors → r < registersEach → getD (s .cells) (registersEach * p + r) false ≡ any (givesRegister p r) es
+  pub registers : (p r : ℕ) → p < processors → r < registersEach → getD (s .cells) (registerAt p r) false ≡ any (givesRegister p r) es
 
 -- ---- at first
 
@@ -68,7 +68,7 @@ holds-none = record {
   counts = λ p. alike {A = ℕ} 0 processors p;
   begun = refl;
   memory = λ x. alike false resultWords (memoryAt x);
-  registers = λ p r k h. alike false resultWords (registersEach * p + r);
+  registers = λ p r k h. alike false resultWords (registerAt p r);
 }
 
 -- ---- the code's tests are the model's
@@ -128,13 +128,13 @@ module _ (g : Columns) (c : Cells) (s : Given) (es : List Entry) (h : Holds g c 
         memory = λ y.
             flag-up (s .cells) (memoryAt x) (memoryAt y) (any (givesMemory y) es) (omega (arith, h .flagged)) (h .memory y)
             ∙ ap (λ (b : Bool). any (givesMemory y) es || b) (same-place 16 x y) ∙ sym (any-more (givesMemory y) es e);
-        registers = λ p q k l. getD-set-other (s .cells) (memoryAt x) (registersEach * p + q) true false (λ z. omega arith) ∙ h .registers p q k l ∙ quiet (givesRegister p q) es e refl;
+        registers = λ p q k l. getD-set-other (s .cells) (memoryAt x) (registerAt p q) true false (λ z. omega arith) ∙ h .registers p q k l ∙ quiet (givesRegister p q) es e refl;
       }
 
   on-register : After (initialRegister (r .processor) (r .register) (r .value))
   on-register =
       let e = initialRegister (r .processor) (r .register) (r .value) in
-      let at = registersEach * r .processor + r .register in
+      let at = registerOf r in
       let low : at < 16 = omega (arith, f .processor, f .register) in
       record {
         machine = step-on g g c (cellsWith c e) es e (h .machine) (register-entered g c r f);
@@ -145,7 +145,7 @@ module _ (g : Columns) (c : Cells) (s : Given) (es : List Entry) (h : Holds g c 
         begun = h .begun ∙ quiet isInstruction es e refl;
         memory = λ y. getD-set-other (s .cells) at (memoryAt y) true false (λ z. omega arith) ∙ h .memory y ∙ quiet (givesMemory y) es e refl;
         registers = λ p q k l.
-            flag-up (s .cells) at (registersEach * p + q) (any (givesRegister p q) es) (omega (arith, h .flagged)) (h .registers p q k l)
+            flag-up (s .cells) at (registerAt p q) (any (givesRegister p q) es) (omega (arith, h .flagged)) (h .registers p q k l)
             ∙ ap (λ (b : Bool). any (givesRegister p q) es || b) (cells-apart (r .processor) (r .register) p q (f .register) l)
             ∙ sym (any-more (givesRegister p q) es e);
       }

@@ -13,7 +13,7 @@ use Rattle.model.specs.declared.answer.Refusal.the-variants.{TableLength}
 use Rattle.model.specs.declared.answer.Verdict.{Verdict}
 use Rattle.model.specs.declared.answer.Verdict.the-variants.{Passed, Refused}
 use Rattle.model.specs.declared.table.Cells.{Cells}
-use Rattle.model.specs.Sizes.{instructionsEach, recordSize}
+use Rattle.model.specs.Sizes.{recordSize}
 use Rattle.model.specs.Record.{recordAt, recordsFrom, records}
 use Rattle.model.specs.Kinds.{Entry, entryOf}
 use Rattle.model.specs.Reply.{numberOf}

@@ -15,14 +15,14 @@ use Rattle.model.specs.Sizes.{instructionsEach}
 use Rattle.model.specs.Program.{Instruction}
 use Rattle.model.specs.Kinds.{Entry, initialMemory, initialRegister, instruction, entryOf}
 use Rattle.model.specs.Tests.{first}
-use Rattle.model.specs.Reading.{ownTests}
+use Rattle.model.specs.Reading.{isInstruction, ownTests}
 use Rattle.model.specs.Code.{Columns, registerOf, countIn, Gives}
 use Rattle.model.proofs.Verdicts.{met, past, none-left, gives-none, then-others, stopped}
 use Rattle.machine_state.specs.Packed.{memoryAt, keptIn, cellsIn}
-use Rattle.table_record.specs.Given.{Given, Formed, flags, placeTests}
-use Rattle.table_record.specs.Enter.{cellsWith, withInstruction, ifPassed, GivesCell, EntersInstruction, EntersFormed, Enters}
+use Rattle.table_record.specs.Given.{Given, Formed, flags, againIn, crowdedIn, placeTests, notedIn}
+use Rattle.table_record.specs.Enter.{cellsWith, withInstruction, programWith, ifPassed, GivesCell, EntersInstruction, EntersFormed, Enters}
 use Rattle.table_record.proofs.Forms.{formed}
-use Rattle.table_record.proofs.Packed.{Becomes, memory-given, register-given}
+use Rattle.table_record.proofs.Cells.{Becomes, memory-given, register-given}
 
 -- ---- a cell
 
@@ -64,31 +64,26 @@ module _ (g : Columns) (cells : List ℕ) (given : List Bool) (begun : Bool) (i 
   Result v h cells' given' then = EntersFormed g (cellsIn cells) (flags given begun) i r v h (cellsIn cells') (flags given' then) × (keptIn cells' ≡ keptIn cells)
 
   module _ (v : Verdict) (cells' : List ℕ) (given' : List Bool) where
-    pub by-memory : entryOf r ≡ initialMemory (r .location) (r .value) → GivesCell cells given begun i (memoryAt (r .location)) (r .value) v cells' given' → Result v g cells' given' begun
+    -- the entry e gives cell c
+    by-cell : (e : Entry) (c : ℕ) → isInstruction e ≡ false → againIn given e ≡ getD given c false → crowdedIn g e ≡ false → notedIn (flags given begun) e ≡ flags (set given c true) begun
+        → programWith g r e ≡ g → Becomes cells r f (set cells c (r .value)) (cellsWith (cellsIn cells) e)
+        → entryOf r ≡ e → GivesCell cells given begun i c (r .value) v cells' given' → Result v g cells' given' begun
     unfolding first
-    by-memory e h =
-        let c = memory-given cells r f in (
-          rw e (record {
-            gives = record { says = h .gives .says };
-            program = kept v g;
-            cells = through cellsIn v _ _ _ (c .0) (h .cellsAfter);
-            given = through (λ (l : List Bool). flags l begun) v _ _ _ refl (h .givenAfter);
-          }),
-          through keptIn v _ _ _ (c .1) (h .cellsAfter) ∙ sym (kept v (keptIn cells)),
-        )
+    by-cell e c initial again roomy noted same b is h = (
+      rw is (record {
+        gives = record { says = rw (initial, again, roomy) (h .gives .says) };
+        program = rw same (kept v g);
+        cells = through cellsIn v _ _ _ (b .0) (h .cellsAfter);
+        given = rw noted (through (λ (l : List Bool). flags l begun) v _ _ _ refl (h .givenAfter));
+      }),
+      through keptIn v _ _ _ (b .1) (h .cellsAfter) ∙ sym (kept v (keptIn cells)),
+    )
+
+    pub by-memory : entryOf r ≡ initialMemory (r .location) (r .value) → GivesCell cells given begun i (memoryAt (r .location)) (r .value) v cells' given' → Result v g cells' given' begun
+    by-memory = by-cell (initialMemory (r .location) (r .value)) (memoryAt (r .location)) refl refl refl refl refl (memory-given cells r f)
 
     pub by-register : entryOf r ≡ initialRegister (r .processor) (r .register) (r .value) → GivesCell cells given begun i (registerOf r) (r .value) v cells' given' → Result v g cells' given' begun
-    unfolding first
-    by-register e h =
-        let c = register-given cells r f in (
-          rw e (record {
-            gives = record { says = h .gives .says };
-            program = kept v g;
-            cells = through cellsIn v _ _ _ (c .0) (h .cellsAfter);
-            given = through (λ (l : List Bool). flags l begun) v _ _ _ refl (h .givenAfter);
-          }),
-          through keptIn v _ _ _ (c .1) (h .cellsAfter) ∙ sym (kept v (keptIn cells)),
-        )
+    by-register = by-cell (initialRegister (r .processor) (r .register) (r .value)) (registerOf r) refl refl refl refl refl (register-given cells r f)
 
   pub by-instruction : (j : Instruction) → entryOf r ≡ instruction (r .processor) j → (v : Verdict) (h : Columns) (then : Bool) → EntersInstruction instructionsEach g begun i r v h then
       → Result v h cells given then

@@ -1,21 +1,20 @@
 -- A record by itself: the fields that its role uses, and what tests 2, 3, 4 leave.
 use mathlib.Core.Path.{_≡_, refl, sym, ap, _∙_}
 use mathlib.Core.Bool.{Bool, true, false}
-use mathlib.Core.List.{List, [], _∷_}
+use mathlib.Core.List.{List, [], _∷_, map}
 use Prim.Native.Nat.{ℕ, _<_}
 use types.Run.{OneOf}
-use denote.Enum.Declared.{tagOf}
 use Rattle.model.specs.declared.record.Record.{Record}
 use Rattle.model.specs.declared.kind.Role.{Role}
 use Rattle.model.specs.declared.kind.Role.the-variants.{Unknown, InitialMemory, InitialRegister, StoreConstant, StoreRegister, Load, SetRegister, Fence, Exchange, ExchangeAdd}
+use Rattle.model.specs.Lists.{All}
 use Rattle.model.specs.Fields.{among, Known}
 use Rattle.model.specs.Kinds.{tableUses, tableRows}
 use Rattle.model.specs.Code.{roleOf}
 use Rattle.model.specs.Tests.{unknown, tooLarge, notZero}
 use Rattle.model.proofs.Fields.{known-test, range-test, zero-test, proper-fields}
-use Rattle.model.proofs.Roles.{Named, known-by-role}
+use Rattle.model.proofs.Roles.{tag, by-arm, Named, known-by-role}
 use Rattle.model.proofs.Rows.{below}
-use Rattle.model.proofs.kind.Role.{the-type}
 use Rattle.record.specs.Fields.{rowOf}
 use Rattle.table_record.specs.Given.{Formed}
 
@@ -44,11 +43,11 @@ row-of r told o e t n =
     let known = known-by-role r o is n in
     (known, sym (ap usedBy is) ∙ uses (r .kind) (known .1))
 
--- and where it is told to have one of these tags
-pub row-of-one : (r : Record) (ts : List ℕ) (row : List Bool) → ((o : Role) → OneOf ts (tagOf the-type o) → Named o × (usedBy o ≡ row))
-    → (told : Role) → told ≡ roleOf (r .kind) → OneOf ts (tagOf the-type told) → Known tableUses r × (row ≡ rowOf tableUses (r .kind))
-row-of-one r ts row each told e t =
-    let n = each told t in
+-- and where it is told to be one of these
+pub row-of-one : (r : Record) (os : List Role) (row : List Bool) → All (λ o. Named o × (usedBy o ≡ row)) os
+    → (told : Role) → told ≡ roleOf (r .kind) → OneOf (map tag os) (tag told) → Known tableUses r × (row ≡ rowOf tableUses (r .kind))
+row-of-one r os row each told e t =
+    let n = by-arm (λ o. Named o × (usedBy o ≡ row)) os each told t in
     let is = row-of r told told e refl (n .0) in
     (is .0, sym (n .1) ∙ is .1)
 

@@ -1,4 +1,4 @@
 pub mod Forms
-pub mod Packed
+pub mod Cells
 pub mod Columns
 pub mod Entered

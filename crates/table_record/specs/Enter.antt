@@ -2,25 +2,24 @@
 use mathlib.Core.Path.{_≡_}
 use mathlib.Core.Bool.{Bool, true, false}
 use mathlib.Core.List.{List, [], _∷_, _++_}
-use Prim.Native.Nat.{ℕ, _+_, _*_}
+use Prim.Native.Nat.{ℕ, _+_}
 use lib.ListN.{getD, set}
 use lib.Dec.{leb}
 use Rattle.model.specs.declared.record.Record.{Record}
 use Rattle.model.specs.declared.answer.Verdict.{Verdict}
 use Rattle.model.specs.declared.answer.Verdict.the-variants.{Passed, Refused}
 use Rattle.model.specs.declared.table.Cells.{Cells}
-use Rattle.model.specs.Sizes.{registersEach}
 use Rattle.model.specs.Kinds.{Entry, initialMemory, initialRegister, instruction, entryOf}
 use Rattle.model.specs.Reading.{ownTests}
 use Rattle.model.specs.Tests.{Test, test}
-use Rattle.model.specs.Code.{Columns, columns, cellsOf, placeAt, countIn, Gives}
+use Rattle.model.specs.Code.{Columns, columns, cellsOf, registerAt, placeAt, countIn, Gives}
 use Rattle.table_record.specs.Given.{Given, placeTests, notedIn}
 
 -- ---- the entry of a record r, entered
 
 abbrev pub cellsWith : Cells → Entry → Cells
 cellsWith cells (initialMemory x v) = cellsOf (cells .registers) (set (cells .memory) x v)
-cellsWith cells (initialRegister p r v) = cellsOf (set (cells .registers) (registersEach * p + r) v) (cells .memory)
+cellsWith cells (initialRegister p r v) = cellsOf (set (cells .registers) (registerAt p r) v) (cells .memory)
 cellsWith cells (instruction p i) = cells
 
 abbrev pub withInstruction : Columns → Record → Columns

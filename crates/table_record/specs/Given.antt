@@ -1,14 +1,14 @@
 -- What the records so far have given, and the tests of an entry that depend on it, as the code makes them: on flags, and on counts.
 use mathlib.Core.Bool.{Bool, true, false, not, _&&_}
 use mathlib.Core.List.{List, [], _∷_}
-use Prim.Native.Nat.{_+_, _*_, _<_}
+use Prim.Native.Nat.{_<_}
 use lib.ListN.{getD, set, replicate}
 use lib.Dec.{leb}
 use Rattle.model.specs.declared.record.Record.{Record}
 use Rattle.model.specs.Sizes.{processors, registersEach, locations, instructionsEach, resultWords}
 use Rattle.model.specs.Fields.{Known}
 use Rattle.model.specs.Kinds.{Entry, initialMemory, initialRegister, instruction, tableUses}
-use Rattle.model.specs.Code.{Columns, countIn}
+use Rattle.model.specs.Code.{Columns, registerAt, countIn}
 use Rattle.model.specs.Reading.{isInstruction}
 use Rattle.model.specs.Tests.{Test, test}
 use Rattle.machine_state.specs.Packed.{memoryAt}
@@ -35,7 +35,7 @@ pub record Formed (r : Record) : Type 0 where
 
 abbrev pub againIn : List Bool → Entry → Bool
 againIn given (initialMemory x v) = getD given (memoryAt x) false
-againIn given (initialRegister p r v) = getD given (registersEach * p + r) false
+againIn given (initialRegister p r v) = getD given (registerAt p r) false
 againIn given (instruction p i) = false
 
 abbrev pub crowdedIn : Columns → Entry → Bool
@@ -50,5 +50,5 @@ placeTests given program e = test 5 (not (isInstruction e) && given .instruction
 
 abbrev pub notedIn : Given → Entry → Given
 notedIn given (initialMemory x v) = flags (set (given .cells) (memoryAt x) true) (given .instruction)
-notedIn given (initialRegister p r v) = flags (set (given .cells) (registersEach * p + r) true) (given .instruction)
+notedIn given (initialRegister p r v) = flags (set (given .cells) (registerAt p r) true) (given .instruction)
 notedIn given (instruction p i) = flags (given .cells) true

@@ -3,8 +3,8 @@ use mathlib.Core.Bool.{false}
 use mathlib.Core.List.{[], _∷_}
 use mathlib.Core.Path.{_≡_, refl}
 use Rattle.model.specs.Code.{acts}
-use Rattle.model.proofs.Bools.{false-true}
-use Rattle.model.proofs.Roles.{by-tag}
+use Rattle.model.proofs.Roles.{by-arm}
+use Rattle.model.specs.declared.kind.Role.the-variants.{Unknown, InitialMemory, InitialRegister, StoreConstant, StoreRegister, SetRegister, Fence, Exchange, ExchangeAdd}
 use Rattle.machine_store.proofs.receive.Statement.{statement}
 use Rattle.machine_store.proofs.receive.Tie as tie
 
@@ -15,8 +15,8 @@ returns-2 : tie.Need-returns-2
 returns-2 c =
     rw (
       ← c .before .role-of .ensures,
-      by-tag (λ o. acts o .loads ≡ false) (0 ∷ 1 ∷ 2 ∷ 3 ∷ 4 ∷ 6 ∷ 7 ∷ 8 ∷ 9 ∷ [])
-          (λ t. refl) (λ t. refl) (λ t. refl) (λ t. refl) (λ t. refl) false-true (λ t. refl) (λ t. refl) (λ t. refl) (λ t. refl) (c .before .role-of .result) (c .match .keys2),
+      by-arm (λ o. acts o .loads ≡ false) (Unknown ∷ InitialMemory ∷ InitialRegister ∷ StoreConstant ∷ StoreRegister ∷ SetRegister ∷ Fence ∷ Exchange ∷ ExchangeAdd ∷ [])
+          (refl, (refl, (refl, (refl, (refl, (refl, (refl, (refl, (refl, tt))))))))) (c .before .role-of .result) (c .match .keys2),
     )
 
 pub receive-spec : {M : Type 1} → statement M

@@ -1,28 +1,19 @@
 use borrow.Author.Needs.{needs}
-use mathlib.Core.Bool.{Bool, true, false}
-use mathlib.Core.List.{List, [], _∷_}
-use mathlib.Core.Path.{_≡_, refl, sym, _∙_}
-use Rattle.model.specs.declared.kind.Role.the-variants.{InitialMemory, StoreConstant, Fence}
-use Rattle.model.proofs.Bools.{false-true}
+use mathlib.Core.List.{[], _∷_}
+use mathlib.Core.Path.{refl, sym, _∙_}
+use Rattle.model.specs.declared.kind.Role.the-variants.{InitialMemory, InitialRegister, StoreConstant, StoreRegister, Load, SetRegister, Fence, Exchange, ExchangeAdd}
 use Rattle.model.proofs.Verdicts.{met}
-use Rattle.model.proofs.Roles.{by-tag, Named, unknown-by-role}
-use Rattle.table_record.proofs.Forms.{usedBy, row-of, row-of-one}
+use Rattle.model.proofs.Roles.{unknown-by-role}
+use Rattle.table_record.proofs.Forms.{row-of, row-of-one}
 use Rattle.table_record.proofs.form.malformed.Statement.{statement}
 use Rattle.table_record.proofs.form.malformed.Tie as tie
-
--- a role of a row
-is : {row : List Bool} → true ≡ true → Unit {0} × (row ≡ row)
-is t = (tt, refl)
 
 tested-requires : tie.Need-tested-requires
 tested-requires c κs = row-of (c .before .before .before .args .r) _ InitialMemory (c .before .before .role-of .ensures) (c .enum-told2 .given .1) tt
 
 tested-requires-2 : tie.Need-tested-requires-2
 tested-requires-2 c κs =
-    let r = c .before .before .args .r in
-    row-of-one r (2 ∷ 6 ∷ []) _
-    (by-tag (λ o. Named o × (usedBy o ≡ (true ∷ true ∷ false ∷ true ∷ []))) (2 ∷ 6 ∷ []) false-true false-true is false-true false-true false-true is false-true false-true false-true)
-    _ (c .before .role-of .ensures) (c .match .keys3)
+    row-of-one (c .before .before .args .r) (InitialRegister ∷ SetRegister ∷ []) _ ((tt, refl), ((tt, refl), tt)) _ (c .before .role-of .ensures) (c .match .keys3)
 
 tested-requires-3 : tie.Need-tested-requires-3
 tested-requires-3 c κs = row-of (c .before .before .before .args .r) _ StoreConstant (c .before .before .role-of .ensures) (c .enum-told3 .given .1) tt
@@ -32,10 +23,8 @@ tested-requires-4 c κs = row-of (c .before .before .before .args .r) _ Fence (c
 
 tested-requires-5 : tie.Need-tested-requires-5
 tested-requires-5 c κs =
-    let r = c .before .before .args .r in
-    row-of-one r (4 ∷ 5 ∷ 8 ∷ 9 ∷ []) _
-    (by-tag (λ o. Named o × (usedBy o ≡ (true ∷ true ∷ true ∷ false ∷ []))) (4 ∷ 5 ∷ 8 ∷ 9 ∷ []) false-true false-true false-true false-true is is false-true false-true is is)
-    _ (c .before .role-of .ensures) (c .match .keys6)
+    row-of-one (c .before .before .args .r) (StoreRegister ∷ Load ∷ Exchange ∷ ExchangeAdd ∷ []) _ ((tt, refl), ((tt, refl), ((tt, refl), ((tt, refl), tt)))) _
+    (c .before .role-of .ensures) (c .match .keys6)
 
 returns : tie.Need-returns
 returns c = met _ _ _ _ _ refl (unknown-by-role (c .before .before .before .args .r) (sym (c .before .before .role-of .ensures) ∙ c .enum-told .given .1))
