@@ -66,11 +66,9 @@ impl<'t> Run<'t> {
     /// k: program steps left, plus writes not yet issued, plus writes waiting.
     pub fn left(&self) -> usize {
         let of_one = |processor| {
-            let program_steps = self.ahead(processor).count();
-            let not_issued = self
-                .ahead(processor)
-                .filter(|(_, step)| *step == Step::Write);
-            program_steps + not_issued.count() + self.waiting_writes(processor).count()
+            let ahead = self.ahead(processor);
+            let not_issued = ahead.iter().filter(|(_, step)| *step == Step::Write);
+            ahead.len() + not_issued.count() + self.waiting_writes(processor).count()
         };
         processors().map(of_one).sum()
     }
@@ -149,23 +147,20 @@ impl<'t> Run<'t> {
     }
 
     /// The processor's whole program as program steps, each with its instruction.
-    fn program(&self, processor: u8) -> impl Iterator<Item = (Record, Step)> + 't {
-        let instructions = self.table.programs.get(usize::from(processor));
-        instructions.into_iter().flatten().flat_map(|&instruction| {
-            let kind = kinds::kind(instruction.kind).into_iter();
-            kind.flat_map(|kind| kind.steps)
-                .map(move |&step| (instruction, step))
-        })
+    fn program(&self, processor: u8) -> &'t [(Record, Step)] {
+        let program = self.table.programs.get(usize::from(processor));
+        program.map_or(&[], Vec::as_slice)
     }
 
     /// The program steps that are left.
-    fn ahead(&self, processor: u8) -> impl Iterator<Item = (Record, Step)> + 't {
-        self.program(processor).skip(self.done(processor).count())
+    fn ahead(&self, processor: u8) -> &'t [(Record, Step)] {
+        let done = self.done(processor).count();
+        self.program(processor).get(done..).unwrap_or(&[])
     }
 
     /// The processor's next program step, with the value that it must have.
     pub fn next(&self, processor: u8) -> Option<Record> {
-        let (instruction, step) = self.ahead(processor).next()?;
+        let &(instruction, step) = self.ahead(processor).first()?;
         let (location, value) = match step {
             Step::Read => (
                 instruction.location,
@@ -201,7 +196,7 @@ impl<'t> Run<'t> {
     fn registers(&self, processor: u8) -> ([u32; REGISTERS], u32) {
         let mut registers = self.table.registers[usize::from(processor)];
         let mut kept = 0;
-        for (done, (instruction, step)) in self.done(processor).zip(self.program(processor)) {
+        for (done, &(instruction, step)) in self.done(processor).zip(self.program(processor)) {
             let register = &mut registers[usize::from(instruction.register)];
             match (step, instruction.kind) {
                 (Step::Read, kinds::LOAD) => *register = done.value,

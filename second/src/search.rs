@@ -102,8 +102,8 @@ fn values(table: &Table, condition: &Condition) -> BTreeSet<u32> {
     let named = condition.iter().map(|&(_, value)| value);
     let registers = table.registers.iter().flatten();
     let initial = registers.chain(&table.memory).copied();
-    let instructions = table.programs.iter().flatten();
-    let constants = instructions.map(|instruction| instruction.value);
+    let program_steps = table.programs.iter().flatten();
+    let constants = program_steps.map(|(instruction, _)| instruction.value);
     named.chain(initial).chain(constants).collect()
 }
 

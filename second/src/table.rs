@@ -1,18 +1,18 @@
 //! Reading a table: document 01's numbers 1 to 7.
 
-use crate::kinds::{self, Kind};
+use crate::kinds::{self, Kind, Step};
 use crate::record::{records, Record, LOCATIONS, PROCESSORS, REGISTERS};
 use crate::reply::{self, Reply};
 
 /// Instructions of one processor, at most.
 pub const INSTRUCTIONS: usize = 16;
 
-/// The initial cells, and each processor's instructions in file order.
+/// The initial cells, and each processor's program steps in order, each with its instruction.
 #[derive(Clone, Debug, Default, PartialEq, Eq)]
 pub struct Table {
     pub registers: [[u32; REGISTERS]; PROCESSORS],
     pub memory: [u32; LOCATIONS],
-    pub programs: [Vec<Record>; PROCESSORS],
+    pub programs: [Vec<(Record, Step)>; PROCESSORS],
 }
 
 pub fn read(bytes: &[u8]) -> Result<Table, Reply> {
@@ -84,7 +84,10 @@ impl Table {
             kinds::INITIAL_REGISTER => {
                 self.registers[processor][usize::from(record.register)] = record.value;
             }
-            _ => self.programs[processor].push(record),
+            _ => {
+                let steps = kinds::kind(record.kind).map_or(&[][..], |kind| kind.steps);
+                self.programs[processor].extend(steps.iter().map(|&step| (record, step)));
+            }
         }
     }
 }
