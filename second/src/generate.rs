@@ -1,5 +1,6 @@
 //! Cases, each made by a seed and its number alone.
 
+mod buffers;
 mod damage;
 mod rooms;
 mod tables;
@@ -8,13 +9,16 @@ mod traces;
 
 use crate::case::{Call, Case};
 use crate::dice::Dice;
-use crate::record::bytes;
+use crate::record::{bytes, Record};
 use crate::table;
+use traces::Habit;
 
 pub fn case(seed: u64, number: u64) -> Case {
     let dice = &mut Dice::new(seed, number);
-    let mut table = bytes(&tables::table(dice));
-    let mut trace = table::read(&table).map_or(Vec::new(), |table| traces::walk(dice, &table));
+    let (records, habit) = undamaged(dice);
+    let mut table = bytes(&records);
+    let walk = |table| traces::walk(dice, habit, &table);
+    let mut trace = table::read(&table).map_or(Vec::new(), walk);
     let call = dice.pick(&[Call::Check, Call::Finish]);
     match (dice.below(10), call) {
         (0..=2, _) => tables::damage(dice, &mut table),
@@ -34,5 +38,21 @@ pub fn case(seed: u64, number: u64) -> Case {
         table,
         trace,
         room,
+    }
+}
+
+/// A readable table, and when its walk drains.
+fn undamaged(dice: &mut Dice) -> (Vec<Record>, Habit) {
+    let habit = dice.pick(&[
+        Habit::AsItComes,
+        Habit::AsItComes,
+        Habit::AtOnce,
+        Habit::AtLast,
+    ]);
+    match dice.below(50) {
+        0 => (tables::largest(dice), habit),
+        1 => (tables::locked(dice), habit),
+        2..=4 => (buffers::table(dice), Habit::AtLast),
+        _ => (tables::table(dice), habit),
     }
 }

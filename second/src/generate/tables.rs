@@ -31,16 +31,18 @@ const FEW_KINDS: [u8; 5] = [
     kinds::LOCKED_EXCHANGE_AND_ADD,
 ];
 
+const LOCKED_KINDS: [u8; 2] = [kinds::LOCKED_EXCHANGE, kinds::LOCKED_EXCHANGE_AND_ADD];
+
 /// What a table has in use: few processors, registers and locations, so that processors meet.
 #[derive(Clone, Copy)]
-struct InUse {
+pub struct InUse {
     kinds: &'static [u8],
     processors: usize,
     registers: usize,
     locations: usize,
 }
 
-const ALL: InUse = InUse {
+pub const ALL: InUse = InUse {
     kinds: &ALL_KINDS,
     processors: PROCESSORS,
     registers: REGISTERS,
@@ -55,25 +57,54 @@ pub fn table(dice: &mut Dice) -> Vec<Record> {
         locations: dice.pick(&[1, 2, 2, 2, 3, 4, LOCATIONS]),
     };
     let each = dice.pick(&[0, 1, 1, 2, 2, 2, 3, 3, 4, 6, INSTRUCTIONS]);
-    if dice.one_in(50) {
-        filled(dice, ALL, INSTRUCTIONS)
-    } else {
-        filled(dice, in_use, each)
-    }
+    filled(dice, in_use, each)
 }
 
-/// Initial records, then instructions of the processors in turns; each processor has at most so many.
+/// The most instructions, of all kinds.
+pub fn largest(dice: &mut Dice) -> Vec<Record> {
+    filled(dice, ALL, INSTRUCTIONS)
+}
+
+/// The most instructions, all of them locked: no table's traces are longer.
+pub fn locked(dice: &mut Dice) -> Vec<Record> {
+    let in_use = InUse {
+        kinds: &LOCKED_KINDS,
+        locations: dice.pick(&[1, 2, LOCATIONS]),
+        ..ALL
+    };
+    filled(dice, in_use, INSTRUCTIONS)
+}
+
+/// Each processor that is in use has at most so many instructions.
 fn filled(dice: &mut Dice, in_use: InUse, each: usize) -> Vec<Record> {
-    let mut table = initial(dice, in_use);
-    let mut left = vec![each; in_use.processors];
-    while let Some(processor) = dice.find(&indices(&left, |&left| left > 0)) {
-        left[processor] -= 1;
-        if each == INSTRUCTIONS || !dice.one_in(4) {
+    let mut programs = Vec::new();
+    for processor in 0..in_use.processors as u8 {
+        programs.push(program(dice, in_use, processor, each));
+    }
+    joined(dice, in_use, programs)
+}
+
+/// At most so many instructions of a processor; sixteen are all there.
+pub fn program(dice: &mut Dice, in_use: InUse, processor: u8, most: usize) -> Vec<Record> {
+    let mut program = Vec::new();
+    for _ in 0..most {
+        if most == INSTRUCTIONS || !dice.one_in(4) {
             let kind = dice.pick(in_use.kinds);
-            let mut record = record(dice, kind, in_use);
-            record.processor = processor as u8;
-            table.push(record);
+            program.push(Record {
+                processor,
+                ..record(dice, kind, in_use)
+            });
         }
+    }
+    program
+}
+
+/// Initial records, then the programs in turns.
+pub fn joined(dice: &mut Dice, in_use: InUse, programs: Vec<Vec<Record>>) -> Vec<Record> {
+    let mut table = initial(dice, in_use);
+    let mut left: Vec<_> = programs.iter().map(|program| program.iter()).collect();
+    while let Some(turn) = dice.find(&indices(&left, |left| left.len() > 0)) {
+        table.extend(left[turn].next());
     }
     table
 }
@@ -97,7 +128,7 @@ fn initial(dice: &mut Dice, in_use: InUse) -> Vec<Record> {
 }
 
 /// A record of that kind: what it uses is in use, the rest is zero.
-fn record(dice: &mut Dice, kind: u8, in_use: InUse) -> Record {
+pub fn record(dice: &mut Dice, kind: u8, in_use: InUse) -> Record {
     let mut record = Record {
         kind,
         processor: 0,

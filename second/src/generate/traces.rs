@@ -10,20 +10,14 @@ use crate::table::Table;
 
 /// When a walk drains.
 #[derive(Clone, Copy)]
-enum Habit {
+pub enum Habit {
     AsItComes,
     AtOnce,
     AtLast,
 }
 
 /// A finished trace of the table.
-pub fn walk(dice: &mut Dice, table: &Table) -> Vec<u8> {
-    let habit = dice.pick(&[
-        Habit::AsItComes,
-        Habit::AsItComes,
-        Habit::AtOnce,
-        Habit::AtLast,
-    ]);
+pub fn walk(dice: &mut Dice, habit: Habit, table: &Table) -> Vec<u8> {
     let mut run = Run::new(table);
     while let Some(step) = wander(dice, habit, run.moves()) {
         run.take(step);
@@ -42,10 +36,15 @@ fn wander(dice: &mut Dice, habit: Habit, moves: Vec<Record>) -> Option<Record> {
     dice.find(&first).or_else(|| dice.find(&then))
 }
 
-/// After any number of steps.
+/// After any number of steps, at times before the first.
 pub fn cut(dice: &mut Dice, trace: &mut Vec<u8>) {
     let steps = trace.len() / Record::BYTES;
-    trace.truncate(dice.below(steps + 1) * Record::BYTES);
+    let kept = if dice.one_in(4) {
+        0
+    } else {
+        dice.below(steps + 1)
+    };
+    trace.truncate(kept * Record::BYTES);
 }
 
 /// One damage, or two, so that the order of the tests shows.
