@@ -34,8 +34,12 @@
 //! assert_eq!(steps[..8], trace[16..]);
 //! ```
 
+mod answer;
 mod refused;
+#[cfg(test)]
+mod tests;
 
+use answer::Answer;
 pub use refused::{Refusal, Refused};
 
 /// The words that [`check`] writes.
@@ -45,12 +49,6 @@ pub const CHECK_WORDS: usize = 24;
 pub const FINISH_BYTES: usize = 2560;
 
 // As in include/ambercell.h.
-#[repr(C)]
-struct Answer {
-    number: u64,
-    place: u64,
-}
-
 extern "C" {
     fn ambercell_check(
         table: *const u8,
@@ -69,19 +67,6 @@ extern "C" {
         room: *mut u8,
         room_bytes: usize,
     ) -> Answer;
-}
-
-impl Answer {
-    fn result(self) -> Result<usize, Refused> {
-        let place = self.place as usize;
-        match self.number {
-            0 => Ok(place),
-            number => Err(Refused {
-                why: Refusal::of(number),
-                place,
-            }),
-        }
-    }
 }
 
 /// Checks that the steps of a trace can happen and finish the run, and gives their number.
