@@ -4,7 +4,6 @@ ghost use mathlib.Core.List.{_++_};
 ghost use Prim.Native.Nat.{_≤_};
 ghost use lib.ListN.{length, drop};
 ghost use Rattle.model.specs.Reply.{replyOf};
-ghost use Rattle.model.specs.Sizes.{resultWords};
 ghost use Rattle.checker_report.specs.Reports.{reportedIn};
 use machine_state::state::Machine;
 use model::answer::Answer;
@@ -32,7 +31,7 @@ pub fn report(
     steps: usize,
     room: &mut [u32],
 ) -> Answer
-    requires { ⌜ resultWords ≤ length (now cells) ⌝ }
+    requires { do ⌜ (← ⟦Cells::WORDS⟧) ≤ length (now cells) ⌝ }
     ensures { λ r. ⌜ replyOf r (now (room .exit))
         ≡ reportedIn (now (codes .entry)) (now (cells .entry)) (now (marks .entry)) steps (now (room .entry)) ⌝ }
 {

@@ -9,11 +9,13 @@ use lib.ListN.{length, drop, length-map}
 use lib.Seq.{drop-nil, drop-cons, drop-append-le, drop-append-seam}
 use lib.Dec.{eqb}
 use borrow.Author.Tests.{eqb-true, eqb-false}
+use Rattle.model.specs.Sizes.{phases}
 use Rattle.model.specs.Program.{ProgramStep, read, write, fence, lock, unlock, local}
-use Rattle.model.specs.Kinds.{tableRows, entryOf}
+use Rattle.model.specs.Kinds.{entryOf}
 use Rattle.model.specs.Left.{writes}
 use Rattle.model.proofs.Columns.{entry-weight}
-use Rattle.machine_rules.specs.Steps.{kindOf, phases, stepsOfKind, stepKind, stepCount}
+use Rattle.machine_rules.specs.Steps.{kindOf, stepsOfKind, stepKind, stepCount}
+use Rattle.machine_rules.proofs.Table.{in-rows}
 use Rattle.finish_left.specs.Weight.{stepWeight, weight, heaviest, kindAt, stepKindsFrom, programLeft, Countable}
 
 -- ---- at most five for each instruction
@@ -102,8 +104,8 @@ module _ (kinds : List ℕ) (p : ℕ) where
         unfolding stepCount
         inside = rw (length-map (stepsOfKind kind) kindOf) (c .stands .inside l)
 
-        pub in-table : (kind < tableRows) × (f < phases)
-        in-table = (c .stands .each a l .0, let o = c .stands .inside l in omega (arith, few-steps kind .0))
+        pub in-table : (kind < 12) × (f < phases)
+        in-table = (in-rows (c .stands .each a l .0), let o = c .stands .inside l in omega (arith, few-steps kind .0))
 
         left-is : (i : ℕ) → drop i (stepKindsFrom kinds p a (count - a)) ≡ drop i (steps a ++ next)
         unfolding stepKindsFrom

@@ -1,7 +1,6 @@
 // k: the program steps left, plus the writes not yet issued, plus the writes waiting.
 ghost use mathlib.Core.Path.{_≡_};
 ghost use Prim.Native.Nat.{_+_, _*_, _≤_};
-ghost use Rattle.model.specs.Sizes.{processors, instructionsEach};
 ghost use lib.ListN.{getD};
 ghost use Rattle.machine_state.specs.Packed.{kindsIn, countsIn, atIn, phaseIn, issuedIn, drainedIn};
 ghost use Rattle.finish_left.specs.Weight.{stepWeight, heaviest, programLeft, Countable};
@@ -46,9 +45,9 @@ fn program_left(codes: &[u8; Program::CODES], marks: &[usize; Machine::MARKS], p
 pub fn left(codes: &[u8; Program::CODES], marks: &[usize; Machine::MARKS]) -> usize
     requires { ⌜ AllCountable (kindsIn (now codes)) (countsIn (now codes)) (atIn (now marks)) (phaseIn (now marks))
         (issuedIn (now marks)) (drainedIn (now marks)) ⌝ }
-    ensures { λ r. ⌜ (r ≡ leftIn (kindsIn (now (codes .entry))) (countsIn (now (codes .entry))) (atIn (now (marks .entry)))
-        (phaseIn (now (marks .entry))) (issuedIn (now (marks .entry))) (drainedIn (now (marks .entry))))
-        × (r ≤ processors * (heaviest + instructionsEach)) ⌝ }
+    ensures { λ r. ⌜ r ≡ leftIn (kindsIn (now (codes .entry))) (countsIn (now (codes .entry))) (atIn (now (marks .entry)))
+        (phaseIn (now (marks .entry))) (issuedIn (now (marks .entry))) (drainedIn (now (marks .entry))) ⌝ }
+    ensures { λ r. do ⌜ r ≤ (← ⟦Program::PROCESSORS⟧ .entry) * (heaviest + (← ⟦Program::INSTRUCTIONS⟧ .entry)) ⌝ }
 {
     let mut k = 0;
     let mut p = 0;

@@ -5,12 +5,12 @@ use Prim.Native.Nat.{ℕ, _<_}
 use native.Mathlib.Omega.{arith}
 use lib.ListN.{getD}
 use Rattle.model.specs.declared.record.Record.{Record}
-use Rattle.model.specs.Sizes.{processors, instructionsEach}
+use Rattle.model.specs.Sizes.{processors, instructionsEach, phases}
 use Rattle.model.specs.Rules.{Event}
 use Rattle.model.specs.Code.{Columns, countIn, instructionAt}
-use Rattle.model.specs.Kinds.{tableRows}
-use Rattle.machine_rules.specs.Steps.{phases, stepKind}
+use Rattle.machine_rules.specs.Steps.{stepKind}
 use Rattle.machine_rules.specs.Programs.{Fetched}
+use Rattle.machine_rules.proofs.Table.{in-rows}
 use Rattle.machine_state.specs.State.{State}
 use Rattle.machine_state.specs.Packed.{standsAt, phaseAt, issuedAt, drainedAt, holderIn, atIn, issuedIn, drainedIn, countsIn, stateIn, columnsIn}
 use Rattle.machine_store.specs.Stores.{advanced, Onward}
@@ -83,8 +83,8 @@ module _ (codes constants cells locations values marks : List ℕ) (u : HasMore 
       here : Fetched g (i .processor) (getD (m .at) (i .processor) 0) i
       here = standing.here _ _ _ _ _ _ ready p low within i read
 
-      pub known-kind : (i .kind < tableRows) × (getD marks (phaseAt p) 0 < phases)
-      known-kind = (here .kind, standing.low-phase _ _ _ _ _ _ ready p low)
+      pub known-kind : (i .kind < 12) × (getD marks (phaseAt p) 0 < phases)
+      known-kind = (in-rows (here .kind), standing.low-phase _ _ _ _ _ _ ready p low)
 
       module _ (next : ℕ) (is : next ≡ stepKind (i .kind) (getD marks (phaseAt p) 0)) where
         pub may-carry-out : MayCarryOut marks i next

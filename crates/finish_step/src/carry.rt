@@ -2,7 +2,6 @@
 ghost use mathlib.Core.Path.{_≡_};
 ghost use Prim.Native.Nat.{_<_};
 ghost use Rattle.model.specs.Rules.{event as eventAs};
-ghost use Rattle.model.specs.Sizes.{processors};
 ghost use Rattle.machine_state.specs.Packed.{stateIn};
 ghost use Rattle.finish_step.specs.Moves.{MayDrainOldest, DrainsOldest, MayCarryOut, CarriesOut};
 use machine_rules::guards;
@@ -19,7 +18,7 @@ use model::table::Cells;
 use model::table::Program;
 
 fn event(kind: u8, p: usize, x: u8, v: u32) -> Record
-    requires { ⌜ p < processors ⌝ }
+    requires { do ⌜ p < (← ⟦Program::PROCESSORS⟧) ⌝ }
     ensures { λ r. ⌜ r ≡ eventAs kind p x v ⌝ }
 {
     Record {

@@ -6,12 +6,12 @@ use native.Mathlib.Omega.{arith}
 use lib.ListN.{length, getD}
 use borrow.Author.Tests.{lt-ltb}
 use Rattle.model.specs.declared.record.Record.{Record}
-use Rattle.model.specs.Sizes.{processors, instructionsEach}
+use Rattle.model.specs.Sizes.{processors, instructionsEach, phases}
 use Rattle.model.specs.Kinds.{tableRows}
 use Rattle.model.specs.Rules.{Event}
 use Rattle.model.specs.Code.{Columns, instructionAt, countIn}
 use Rattle.machine_rules.specs.Guards.{nobody}
-use Rattle.machine_rules.specs.Steps.{phases, stepKind}
+use Rattle.machine_rules.specs.Steps.{stepKind}
 use Rattle.machine_rules.specs.Programs.{fetched, Fetched}
 use Rattle.machine_rules.proofs.Instructions.{fetched-is}
 use Rattle.machine_state.specs.State.{State}

@@ -12,17 +12,18 @@ use Rattle.model.specs.declared.answer.Attempt.the-variants.{Taken, Turned}
 use Rattle.model.specs.declared.answer.Refusal.{Refusal}
 use Rattle.model.specs.declared.answer.Refusal.the-variants.{NotAllowed}
 use Rattle.model.specs.declared.record.Record.{Record}
-use Rattle.model.specs.Sizes.{processors, instructionsEach}
+use Rattle.model.specs.Sizes.{processors, instructionsEach, phases}
 use Rattle.model.specs.Fields.{Proper}
-use Rattle.model.specs.Kinds.{tableRows, stepUses}
+use Rattle.model.specs.Kinds.{stepUses}
 use Rattle.model.specs.Rules.{Event, event}
 use Rattle.model.specs.Code.{Columns, placeAt, instructionAt, countIn, taken, judged}
 use Rattle.model.specs.Step.{same}
 use Rattle.model.proofs.Bools.{false-true, and-left, same-true}
 use Rattle.machine_rules.specs.Guards.{permits}
-use Rattle.machine_rules.specs.Steps.{phases, stepsOfKind, stepKind}
+use Rattle.machine_rules.specs.Steps.{stepsOfKind, stepKind}
 use Rattle.machine_rules.specs.Programs.{fetched, Fetched}
 use Rattle.machine_rules.specs.Offers.{oldestIn, offeredIn}
+use Rattle.machine_rules.proofs.Table.{in-rows}
 use Rattle.machine_state.specs.State.{State}
 use Rattle.machine_state.specs.Packed.{memoryAt, standsAt, phaseAt, issuedAt, drainedAt, holderIn, countsIn, stateIn, columnsIn}
 use Rattle.machine_store.specs.Stores.{oneMoreDrained, advanced, Onward}
@@ -207,8 +208,8 @@ module _ (codes constants cells locations values marks : List ℕ) (ready : Read
       own-low : i .processor < processors
       own-low = standing.own-low _ _ _ _ _ _ ready p h some i read
 
-      pub known-kind : (i .kind < tableRows) × (getD marks (phaseAt p) 0 < phases)
-      known-kind = (here .kind, standing.low-phase _ _ _ _ _ _ ready p h)
+      pub known-kind : (i .kind < 12) × (getD marks (phaseAt p) 0 < phases)
+      known-kind = (in-rows (here .kind), standing.low-phase _ _ _ _ _ _ ready p h)
 
       kind-is : stepKind (i .kind) (getD marks (phaseAt p) 0) ≡ stepKind (i .kind) (getD (m .phase) (i .processor) 0)
       kind-is = standing.kind-is _ _ _ _ _ _ ready p h some i read

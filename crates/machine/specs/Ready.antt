@@ -5,12 +5,12 @@ use mathlib.Core.Bool.{false}
 use lib.ListN.{length, getD}
 use Rattle.model.specs.declared.answer.Attempt.{Attempt}
 use Rattle.model.specs.declared.record.Record.{Record}
-use Rattle.model.specs.Sizes.{processors, registersEach, locations, instructionsEach}
+use Rattle.model.specs.Sizes.{processors, registersEach, locations, instructionsEach, phases}
 use Rattle.model.specs.Left.{writes}
 use Rattle.model.specs.Step.{step}
 use Rattle.model.specs.Code.{Columns, instructionAt, countIn, Fits, taken, steppedOf}
 use Rattle.model.specs.Rules.{Event}
-use Rattle.machine_rules.specs.Steps.{phases, stepCount}
+use Rattle.machine_rules.specs.Steps.{stepCount}
 use Rattle.machine.specs.View.{todoIn, machineOf}
 use Rattle.machine_state.specs.State.{State}
 

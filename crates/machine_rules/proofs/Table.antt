@@ -8,8 +8,14 @@ use lib.ListN.{getD}
 use lib.Dec.{ltb, lit<}
 use borrow.Author.Tests.{ltb-true}
 use Rattle.model.proofs.Bools.{and-left, and-right}
+use Rattle.model.specs.Sizes.{phases}
 use Rattle.model.specs.Kinds.{tableUses, tableRows}
-use Rattle.machine_rules.specs.Steps.{phases, stepKind, stepCount}
+use Rattle.machine_rules.specs.Steps.{stepKind, stepCount}
+
+-- the code has a row for each kind
+pub in-rows : {k : ℕ} → k < tableRows → k < 12
+unfolding tableUses
+in-rows h = h
 
 -- f 0, .., f (n - 1)
 abbrev upTo : {A : Type 0} → ℕ → (ℕ → A) → List A

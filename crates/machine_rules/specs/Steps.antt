@@ -14,10 +14,6 @@ kindOf lock = 5
 kindOf unlock = 6
 kindOf (local r v) = 7
 
--- no instruction has more program steps
-abbrev pub phases : ℕ
-phases = 4
-
 -- the program steps of an instruction of kind k, whatever its fields
 unfoldable pub stepsOfKind : ℕ → List ProgramStep
 unfolding stepsIn entryOf

@@ -1,8 +1,7 @@
 // The program steps of each kind of instruction.
 ghost use mathlib.Core.Path.{_≡_};
 ghost use Prim.Native.Nat.{_<_};
-ghost use Rattle.model.specs.Kinds.{tableRows};
-ghost use Rattle.machine_rules.specs.Steps.{phases, stepKind, stepCount};
+ghost use Rattle.machine_rules.specs.Steps.{stepKind, stepCount};
 use model::kind::Role;
 
 // The kinds of steps.
@@ -23,11 +22,8 @@ pub const LOCAL: u8 = 7;
 // Past the last program step.
 const NONE: u8 = 0;
 
-// No instruction has more program steps.
-const PHASES: usize = 4;
-
 // The program steps of each instruction kind, in order.
-const STEPS: [[u8; PHASES]; Role::KINDS] = [
+const STEPS: [[u8; Role::PHASES]; Role::KINDS] = [
     [NONE, NONE, NONE, NONE], // 0 no kind
     [NONE, NONE, NONE, NONE], // 1 initial memory
     [NONE, NONE, NONE, NONE], // 2 initial register
@@ -46,7 +42,7 @@ const STEPS: [[u8; PHASES]; Role::KINDS] = [
 const COUNTS: [u16; Role::KINDS] = [0, 0, 0, 1, 1, 1, 1, 1, 2, 4, 2, 4];
 
 pub fn step_kind(kind: u8, phase: usize) -> u8
-    requires { ⌜ (kind < tableRows) × (phase < phases) ⌝ }
+    requires { do ⌜ (kind < (← ⟦Role::KINDS⟧)) × (phase < (← ⟦Role::PHASES⟧)) ⌝ }
     ensures { λ r. ⌜ r ≡ stepKind kind phase ⌝ }
 {
     let k = kind as usize;
@@ -54,7 +50,7 @@ pub fn step_kind(kind: u8, phase: usize) -> u8
 }
 
 pub fn step_count(kind: u8) -> usize
-    requires { ⌜ kind < tableRows ⌝ }
+    requires { do ⌜ kind < (← ⟦Role::KINDS⟧) ⌝ }
     ensures { λ r. ⌜ r ≡ stepCount kind ⌝ }
 {
     let k = kind as usize;

@@ -1,7 +1,6 @@
 // Finished: all programs at their end, all buffers empty.
 ghost use mathlib.Core.Path.{_≡_};
 ghost use Prim.Native.Nat.{_<_};
-ghost use Rattle.model.specs.Sizes.{processors};
 ghost use Rattle.machine_state.specs.Packed.{countsIn, atIn, issuedIn, drainedIn};
 ghost use Rattle.machine_state.specs.Finished.{doneAt, finishedIn};
 use crate::program;
@@ -10,7 +9,7 @@ use model::table::Program;
 
 // Processor p is at the end of its program, and all writes that it issued are drained.
 pub fn is_done(codes: &[u8; Program::CODES], marks: &[usize; Machine::MARKS], p: usize) -> bool
-    requires { ⌜ p < processors ⌝ }
+    requires { do ⌜ p < (← ⟦Program::PROCESSORS⟧) ⌝ }
     ensures { λ r. ⌜ r ≡ doneAt (atIn (now (marks .entry))) (countsIn (now (codes .entry)))
         (drainedIn (now (marks .entry))) (issuedIn (now (marks .entry))) p ⌝ }
 {

@@ -3,7 +3,6 @@ ghost use mathlib.Core.Path.{_≡_};
 ghost use Prim.Native.Nat.{_<_};
 ghost use lib.ListN.{getD};
 ghost use Rattle.model.specs.Code.{placeAt, instructionAt};
-ghost use Rattle.model.specs.Sizes.{processors, instructionsEach};
 ghost use Rattle.machine_state.specs.Packed.{kindsIn, countsIn, columnsIn};
 use model::record::Record;
 use model::table::Program;
@@ -16,7 +15,7 @@ fn wide(byte: u8) -> usize
 
 // How many instructions processor p has.
 pub fn count(codes: &[u8; Program::CODES], p: usize) -> usize
-    requires { ⌜ p < processors ⌝ }
+    requires { do ⌜ p < (← ⟦Program::PROCESSORS⟧) ⌝ }
     ensures { λ r. ⌜ r ≡ getD (countsIn (now (codes .entry))) p 0 ⌝ }
 {
     wide(codes[Program::COUNTS + p])
@@ -24,7 +23,7 @@ pub fn count(codes: &[u8; Program::CODES], p: usize) -> usize
 
 // The kind of its instruction a.
 pub fn kind(codes: &[u8; Program::CODES], p: usize, a: usize) -> u8
-    requires { ⌜ (p < processors) × (a < instructionsEach) ⌝ }
+    requires { do ⌜ (p < (← ⟦Program::PROCESSORS⟧)) × (a < (← ⟦Program::INSTRUCTIONS⟧)) ⌝ }
     ensures { λ r. ⌜ r ≡ getD (kindsIn (now (codes .entry))) (placeAt p a) 0 ⌝ }
 {
     codes[Program::INSTRUCTIONS * p + a]
@@ -37,7 +36,7 @@ pub fn instruction<'a>(
     p: usize,
     a: usize,
 ) -> Record
-    requires { ⌜ (p < processors) × (a < instructionsEach) ⌝ }
+    requires { do ⌜ (p < (← ⟦Program::PROCESSORS⟧)) × (a < (← ⟦Program::INSTRUCTIONS⟧)) ⌝ }
     ensures { λ r. ⌜ r ≡ instructionAt (columnsIn (now (codes .entry)) (now (constants .entry))) p a ⌝ }
 {
     let place = Program::INSTRUCTIONS * p + a;

@@ -22,10 +22,12 @@ impl Machine {
 
     pub const CELLS: usize = Self::KEPT + Program::PROCESSORS;
 
-    // Where `marks` has the holder, where a mark of each processor begins, and how long it is.
+    // Where `marks` has the holder, where a mark of each processor begins, and how long it is. Some places between are free.
     pub const HOLDER: usize = 0;
 
-    pub const AT: usize = 4;
+    const FREE: usize = 3;
+
+    pub const AT: usize = Self::HOLDER + 1 + Self::FREE;
 
     pub const PHASE: usize = Self::AT + Program::PROCESSORS;
 

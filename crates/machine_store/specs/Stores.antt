@@ -6,8 +6,8 @@ use lib.ListN.{getD, set}
 use lib.Dec.{eqb}
 use Rattle.model.specs.Code.{placeAt, actsOf}
 use Rattle.model.specs.Kinds.{tableRows}
-use Rattle.model.specs.Sizes.{processors, locations, instructionsEach}
-use Rattle.machine_rules.specs.Steps.{phases, stepCount}
+use Rattle.model.specs.Sizes.{processors, locations, instructionsEach, phases}
+use Rattle.machine_rules.specs.Steps.{stepCount}
 use Rattle.machine_state.specs.Packed.{keptAt, standsAt, phaseAt, issuedAt, drainedAt}
 
 abbrev pub received : List ℕ → ℕ → ℕ → ℕ → ℕ → List ℕ

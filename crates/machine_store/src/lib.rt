@@ -1,19 +1,19 @@
 // Single stores. `kind` is that of the instruction that processor p stands at, c the place of its register among the cells.
 ghost use mathlib.Core.Path.{_≡_};
-ghost use Prim.Native.Nat.{_*_, _<_};
+ghost use Prim.Native.Nat.{_<_};
 ghost use lib.ListN.{set};
-ghost use Rattle.model.specs.Sizes.{processors, registersEach};
 ghost use Rattle.machine_state.specs.Packed.{memoryAt};
 ghost use Rattle.machine_store.specs.Stores.{received, exchanged, nextPlace, oneMoreIssued, oneMoreDrained, advanced, Issuable, Drainable, Onward};
 use machine_rules::program;
 use machine_state::state::Machine;
 use model::kind::Role;
 use model::kind::role_of;
+use model::table::Cells;
 use model::table::Program;
 
 // A load's read goes into the register, an exchange's is kept aside.
 pub fn receive(cells: &mut [u32; Machine::CELLS], kind: u8, p: usize, c: usize, v: u32)
-    requires { ⌜ (p < processors) × (c < processors * registersEach) ⌝ }
+    requires { do ⌜ (p < (← ⟦Program::PROCESSORS⟧)) × (c < (← ⟦Cells::ALL_REGISTERS⟧)) ⌝ }
     ensures { λ _. ⌜ now (cells .exit) ≡ received (now (cells .entry)) kind p c v ⌝ }
 {
     match role_of(kind) {
@@ -24,7 +24,7 @@ pub fn receive(cells: &mut [u32; Machine::CELLS], kind: u8, p: usize, c: usize, 
 
 // With an exchange's write the register takes the kept value.
 pub fn exchange(cells: &mut [u32; Machine::CELLS], kind: u8, p: usize, c: usize)
-    requires { ⌜ (p < processors) × (c < processors * registersEach) ⌝ }
+    requires { do ⌜ (p < (← ⟦Program::PROCESSORS⟧)) × (c < (← ⟦Cells::ALL_REGISTERS⟧)) ⌝ }
     ensures { λ _. ⌜ now (cells .exit) ≡ exchanged (now (cells .entry)) kind p c ⌝ }
 {
     match role_of(kind) {

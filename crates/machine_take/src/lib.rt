@@ -2,7 +2,6 @@
 ghost use mathlib.Core.Path.{_≡_};
 ghost use Prim.Native.Nat.{_<_};
 ghost use Rattle.model.specs.Code.{judged};
-ghost use Rattle.model.specs.Sizes.{processors};
 ghost use Rattle.machine_rules.specs.Guards.{nobody};
 ghost use Rattle.machine_take.specs.Takes.{allows, MayDrain, Drains, MayRead, Reads, MayWrite, Writes, Holds, HasRegister, Assigns};
 use machine_rules::guards;
@@ -106,7 +105,7 @@ pub fn write<'a>(
 
 // Lock and buffer allow processor p a step of this kind.
 fn allowed(kind: u8, marks: &[usize; Machine::MARKS], p: usize) -> bool
-    requires { ⌜ p < processors ⌝ }
+    requires { do ⌜ p < (← ⟦Program::PROCESSORS⟧) ⌝ }
     ensures { λ r. ⌜ r ≡ allows kind (now (marks .entry)) p ⌝ }
 {
     let empty = marks[Machine::DRAINED + p] == marks[Machine::ISSUED + p];
@@ -114,8 +113,8 @@ fn allowed(kind: u8, marks: &[usize; Machine::MARKS], p: usize) -> bool
 }
 
 pub fn fence(marks: &[usize; Machine::MARKS], p: usize) -> Attempt
-    requires { ⌜ p < processors ⌝ }
-    ensures { λ r. ⌜ r ≡ judged (allows 4 (now (marks .entry)) p) ⌝ }
+    requires { do ⌜ p < (← ⟦Program::PROCESSORS⟧) ⌝ }
+    ensures { λ r. do ⌜ r ≡ judged (allows (← ⟦FENCE⟧ .entry) (now (marks .entry)) p) ⌝ }
 {
     if allowed(FENCE, marks, p) {
         return Attempt::Taken;
@@ -124,8 +123,8 @@ pub fn fence(marks: &[usize; Machine::MARKS], p: usize) -> Attempt
 }
 
 pub fn lock(marks: &mut [usize; Machine::MARKS], p: usize) -> Attempt
-    requires { ⌜ p < processors ⌝ }
-    ensures { λ r. ⌜ Holds 5 p (now (marks .entry)) p r (now (marks .exit)) ⌝ }
+    requires { do ⌜ p < (← ⟦Program::PROCESSORS⟧) ⌝ }
+    ensures { λ r. do ⌜ Holds (← ⟦LOCK⟧ .entry) p (now (marks .entry)) p r (now (marks .exit)) ⌝ }
 {
     if allowed(LOCK, marks, p) {
         marks[Machine::HOLDER] = p;
@@ -135,8 +134,8 @@ pub fn lock(marks: &mut [usize; Machine::MARKS], p: usize) -> Attempt
 }
 
 pub fn unlock(marks: &mut [usize; Machine::MARKS], p: usize) -> Attempt
-    requires { ⌜ p < processors ⌝ }
-    ensures { λ r. ⌜ Holds 6 nobody (now (marks .entry)) p r (now (marks .exit)) ⌝ }
+    requires { do ⌜ p < (← ⟦Program::PROCESSORS⟧) ⌝ }
+    ensures { λ r. do ⌜ Holds (← ⟦UNLOCK⟧ .entry) nobody (now (marks .entry)) p r (now (marks .exit)) ⌝ }
 {
     if allowed(UNLOCK, marks, p) {
         marks[Machine::HOLDER] = NOBODY;

@@ -20,9 +20,13 @@ resultWords = processors * registersEach + locations
 abbrev pub recordSize : ℕ
 recordSize = 8
 
--- no instruction takes more steps: four of the program, and a drain
+-- no instruction has more program steps
+abbrev pub phases : ℕ
+phases = 4
+
+-- no instruction takes more steps: those of the program, and a drain
 abbrev pub stepsEach : ℕ
-stepsEach = 5
+stepsEach = phases + 1
 
 -- the steps of the longest finished trace
 abbrev pub longestTrace : ℕ

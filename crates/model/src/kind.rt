@@ -19,6 +19,9 @@ pub enum Role {
 impl Role {
     // Every kind is below.
     pub const KINDS: usize = 12;
+
+    // No instruction has more program steps.
+    pub const PHASES: usize = 4;
 }
 
 pub fn role_of(kind: u8) -> Role

@@ -9,4 +9,10 @@ pub struct Record {
 
 impl Record {
     pub const BYTES: usize = 8;
+
+    // Where in them its value begins.
+    pub const VALUE: usize = 4;
+
+    // The fields that a kind uses or not: processor, register, location, value.
+    pub const FIELDS: usize = 4;
 }

@@ -34,8 +34,8 @@ impl Program {
     // by a call of memset, which the library would need of the program that it is linked to.
     pub const UNREAD: u32 = 1;
 
-    // Steps in the longest finished trace: no instruction takes more than five.
-    pub const LONGEST: usize = Self::PLACES * 5;
+    // Steps in the longest finished trace: beside its program steps an instruction has a drain at most.
+    pub const LONGEST: usize = Self::PLACES * (Role::PHASES + 1);
 }
 
 // The registers, processor by processor, and memory: what initial records set and a result reports.

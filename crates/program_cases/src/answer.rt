@@ -2,11 +2,13 @@
 ghost use mathlib.Core.Path.{_≡_};
 ghost use Prim.Native.Nat.{_*_, _≤_};
 ghost use lib.ListN.{length};
+ghost use Rattle.program_cases.specs.Answers.{Checks, Answers};
 use crate::head::Head;
 use crate::head::read_head;
 use crate::part;
 use crate::part::MOST;
 use crate::part::read_part;
+use crate::words::LONG;
 use crate::words::put_long;
 use crate::words::read_words;
 use crate::words::write_words;
@@ -15,10 +17,12 @@ use ambercell::CAnswer;
 use ambercell::ambercell_check;
 use ambercell::ambercell_finish;
 use libc::STDOUT_FILENO;
+use record::bytes::WORD;
 
 // In the words that a room's bytes are.
 fn check(table: &[u8], trace: &[u8], room: &mut [u8], words: &mut [u32]) -> CAnswer
-    requires { ⌜ length (now words) * 4 ≤ length (now room) ⌝ }
+    requires { do ⌜ length (now words) * (← ⟦WORD⟧) ≤ length (now room) ⌝ }
+    ensures { λ r. ⌜ Checks (now (table .entry)) (now (trace .entry)) (now (room .entry)) (now (words .entry)) r (now (room .exit)) (now (words .exit)) ⌝ }
 {
     read_words(words, room);
     let answer = ambercell_check(table, trace, words);
@@ -26,24 +30,29 @@ fn check(table: &[u8], trace: &[u8], room: &mut [u8], words: &mut [u32]) -> CAns
     answer
 }
 
+fn answer(call: u32, table: &[u8], trace: &[u8], room: &mut [u8], words: &mut [u32]) -> CAnswer
+    requires { do ⌜ length (now words) * (← ⟦WORD⟧) ≤ length (now room) ⌝ }
+    ensures { λ r. do ⌜ Answers (← ⟦Head::FINISH⟧ .entry) call (now (table .entry)) (now (trace .entry)) (now (room .entry)) (now (words .entry)) r (now (room .exit)) (now (words .exit)) ⌝ }
+{
+    if call == Head::FINISH {
+        return ambercell_finish(table, trace, room);
+    }
+    check(table, trace, room, words)
+}
+
 fn say_answer(answer: CAnswer, room: &[u8]) {
-    let mut bytes = [0u8; 16];
+    let mut bytes = [0u8; LONG + LONG];
     put_long(&mut bytes, 0, answer.number);
-    put_long(&mut bytes, 2, answer.place);
+    put_long(&mut bytes, LONG, answer.place);
     io::write_all(STDOUT_FILENO, &bytes);
     io::write_all(STDOUT_FILENO, room);
 }
 
-fn answer(call: u32, table: &[u8], trace: &[u8], room: &mut [u8], words: &mut [u32])
-    requires { ⌜ length (now words) * 4 ≤ length (now room) ⌝ }
+fn answer_aloud(call: u32, table: &[u8], trace: &[u8], room: &mut [u8], words: &mut [u32])
+    requires { do ⌜ length (now words) * (← ⟦WORD⟧) ≤ length (now room) ⌝ }
 {
-    if call == Head::FINISH {
-        let finished = ambercell_finish(table, trace, room);
-        say_answer(finished, room);
-        return;
-    }
-    let checked = check(table, trace, room, words);
-    say_answer(checked, room);
+    let said = answer(call, table, trace, room, words);
+    say_answer(said, room);
 }
 
 // The next case, and whether there is one.
@@ -51,7 +60,7 @@ fn answer_next(table: &mut [u8], trace: &mut [u8], room: &mut [u8], words: &mut 
     requires { do ⌜ length (now table) ≡ (← ⟦MOST⟧) ⌝ }
     requires { do ⌜ length (now trace) ≡ (← ⟦MOST⟧) ⌝ }
     requires { do ⌜ length (now room) ≡ (← ⟦MOST⟧) ⌝ }
-    requires { do ⌜ length (now words) * 4 ≡ (← ⟦MOST⟧) ⌝ }
+    requires { do ⌜ length (now words) * (← ⟦WORD⟧) ≡ (← ⟦MOST⟧) ⌝ }
 {
     let head = read_head();
     if !head.whole {
@@ -69,8 +78,8 @@ fn answer_next(table: &mut [u8], trace: &mut [u8], room: &mut [u8], words: &mut 
     if !read_part(room, r) {
         return false;
     }
-    let w = r / 4;
-    answer(
+    let w = r / WORD;
+    answer_aloud(
         head.call,
         &table[..t],
         &trace[..e],

@@ -3,8 +3,9 @@ ghost use Rattle.program_cases.specs.Parts.{Fits};
 use crate::part::MOST;
 use crate::part::complain;
 use crate::part::complain_cut;
-use crate::words::word;
 use libc::STDIN_FILENO;
+use record::bytes::WORD;
+use record::bytes::value_at;
 
 pub struct Head {
     pub whole: bool,
@@ -15,7 +16,16 @@ pub struct Head {
 }
 
 impl Head {
-    pub const BYTES: usize = 16;
+    // Where in its bytes a word begins: the call, and three lengths.
+    const CALL: usize = 0;
+
+    const TABLE: usize = Self::CALL + WORD;
+
+    const TRACE: usize = Self::TABLE + WORD;
+
+    const ROOM: usize = Self::TRACE + WORD;
+
+    pub const BYTES: usize = Self::ROOM + WORD;
 
     pub const FINISH: u32 = 1;
 
@@ -44,13 +54,13 @@ impl Head {
 fn head_of(bytes: &[u8; Head::BYTES]) -> Head
     ensures { λ r. do ⌜ Fits (← ⟦MOST⟧ .entry) r ⌝ }
 {
-    let call = word(bytes, 0);
+    let call = value_at(bytes, Head::CALL);
     if Head::FINISH < call {
         return Head::refused(b"cases: a call is 0 or 1\n");
     }
-    let table = word(bytes, 1) as usize;
-    let trace = word(bytes, 2) as usize;
-    let room = word(bytes, 3) as usize;
+    let table = value_at(bytes, Head::TABLE) as usize;
+    let trace = value_at(bytes, Head::TRACE) as usize;
+    let room = value_at(bytes, Head::ROOM) as usize;
     if MOST < table || MOST < trace || MOST < room {
         return Head::refused(b"cases: a table, a trace or a room has more than 1048576 bytes\n");
     }

@@ -9,7 +9,7 @@ use libc::STDIN_FILENO;
 pub const MOST: usize = 1048576;
 
 pub fn zeros() -> [u8; MOST]
-    ensures { λ r. ⌜ 1048576 ≡ length r ⌝ }
+    ensures { λ r. do ⌜ (← ⟦MOST⟧ .entry) ≡ length r ⌝ }
 {
     [0; MOST]
 }

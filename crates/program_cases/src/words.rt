@@ -1,63 +1,57 @@
-// Numbers as bytes, lowest first.
+// Words, and numbers of two words, as bytes: lowest first.
 ghost use mathlib.Core.Path.{_≡_};
+ghost use mathlib.Core.List.{_++_};
 ghost use Prim.Native.Nat.{_+_, _*_, _≤_};
-ghost use lib.ListN.{length};
+ghost use lib.ListN.{length, drop};
+ghost use Rattle.program_cases.specs.Words.{wordsIn, bytesIn, withLong};
 use crate::part;
-use record::bytes::low;
-use record::bytes::value;
+use record::bytes::WORD;
+use record::bytes::put_value;
+use record::bytes::value_at;
 
 // The words of a room.
-const MOST: usize = part::MOST / 4;
+const MOST: usize = part::MOST / WORD;
 
 pub fn zero_words() -> [u32; MOST]
-    ensures { λ r. ⌜ 262144 ≡ length r ⌝ }
+    ensures { λ r. do ⌜ (← ⟦MOST⟧ .entry) ≡ length r ⌝ }
 {
     [0; MOST]
 }
 
-// Word i of these bytes.
-pub fn word(bytes: &[u8], i: usize) -> u32
-    requires { ⌜ i * 4 + 4 ≤ length (now bytes) ⌝ }
+// The bytes of a number of two words, and what its second word counts.
+pub const LONG: usize = WORD + WORD;
+
+const SECOND: u64 = 4294967296;
+
+// The bytes from `at` on become those of v.
+pub fn put_long(bytes: &mut [u8], at: usize, v: u64)
+    requires { do ⌜ at + (← ⟦LONG⟧) ≤ length (now bytes) ⌝ }
+    ensures { λ _. ⌜ now (bytes .exit) ≡ withLong (now (bytes .entry)) at v ⌝ }
 {
-    let at = i * 4;
-    value(bytes[at], bytes[at + 1], bytes[at + 2], bytes[at + 3])
+    put_value(bytes, at, (v % SECOND) as u32);
+    put_value(bytes, at + WORD, (v / SECOND) as u32);
 }
 
-// Word i of these bytes becomes v.
-pub fn put_word(bytes: &mut [u8], i: usize, v: u32)
-    requires { ⌜ i * 4 + 4 ≤ length (now bytes) ⌝ }
-{
-    let at = i * 4;
-    bytes[at] = low(v);
-    bytes[at + 1] = low(v / 256);
-    bytes[at + 2] = low(v / 65536);
-    bytes[at + 3] = low(v / 16777216);
-}
-
-// Words i and i + 1 become v.
-pub fn put_long(bytes: &mut [u8], i: usize, v: u64)
-    requires { ⌜ i * 4 + 8 ≤ length (now bytes) ⌝ }
-{
-    put_word(bytes, i, (v % 4294967296) as u32);
-    put_word(bytes, i + 1, (v / 4294967296) as u32);
-}
-
+// The words become those that the bytes begin with.
 pub fn read_words(words: &mut [u32], bytes: &[u8])
-    requires { ⌜ length (now words) * 4 ≤ length (now bytes) ⌝ }
+    requires { do ⌜ length (now words) * (← ⟦WORD⟧) ≤ length (now bytes) ⌝ }
+    ensures { λ _. ⌜ now (words .exit) ≡ wordsIn (now (bytes .entry)) (length (now (words .entry))) ⌝ }
 {
     let mut i: usize = 0;
     while i < words.len() {
-        words[i] = word(bytes, i);
+        words[i] = value_at(bytes, i * WORD);
         i += 1;
     }
 }
 
+// The bytes begin with those of the words; what stands behind is kept.
 pub fn write_words(bytes: &mut [u8], words: &[u32])
-    requires { ⌜ length (now words) * 4 ≤ length (now bytes) ⌝ }
+    requires { do ⌜ length (now words) * (← ⟦WORD⟧) ≤ length (now bytes) ⌝ }
+    ensures { λ _. do ⌜ now (bytes .exit) ≡ bytesIn (now (words .entry)) ++ drop (length (now (words .entry)) * (← ⟦WORD⟧ .entry)) (now (bytes .entry)) ⌝ }
 {
     let mut i: usize = 0;
     while i < words.len() {
-        put_word(bytes, i, words[i]);
+        put_value(bytes, i * WORD, words[i]);
         i += 1;
     }
 }

@@ -1,4 +1,4 @@
-// The finish program: table.rec is dealt with before trace.rec is looked at, and both before the run is finished.
+// The finish program: reads both files, finishes the run, writes it and says which steps were added.
 ghost use mathlib.Core.Path.{_≡_};
 ghost use Prim.Native.Nat.{_≤_};
 ghost use lib.ListN.{length};
@@ -9,8 +9,8 @@ ghost use Rattle.text_steps.specs.Steps.{shown, InRoom};
 ghost use Rattle.text.specs.Text.{Adds};
 use model::answer::Answer;
 use model::record::Record;
+use program_files::both::read_both;
 use program_files::read;
-use program_files::say::read_or_say;
 use program_files::say::say;
 use program_files::write::write_file;
 use text_steps::added;
@@ -65,16 +65,11 @@ fn show_reply(table: &[u8], trace: &[u8]) {
 
 pub fn show() {
     let mut table = [0u8; read::ROOM];
-    let got = read_or_say(b"table.rec", &mut table);
-    if !got.whole {
-        return;
-    }
     let mut trace = [0u8; read::ROOM];
-    let more = read_or_say(b"trace.rec", &mut trace);
-    if !more.whole {
-        return;
+    let both = read_both(&mut table, &mut trace);
+    if both.whole {
+        let n = both.table;
+        let k = both.trace;
+        show_reply(&table[..n], &trace[..k]);
     }
-    let n = got.length;
-    let k = more.length;
-    show_reply(&table[..n], &trace[..k]);
 }

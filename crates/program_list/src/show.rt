@@ -1,14 +1,13 @@
-// The listing program: table.rec is dealt with before trace.rec is looked at, and both before the check.
+// The listing program: reads both files, checks, and says the reply.
 ghost use Prim.Native.Nat.{_≤_};
 ghost use lib.ListN.{length, replicate};
 ghost use Rattle.io.specs.Counts.{Counts};
 ghost use Rattle.model.specs.Calls.{checked};
-ghost use Rattle.model.specs.Sizes.{resultWords};
 ghost use Rattle.text.specs.Reply.{listed};
 ghost use Rattle.text.specs.Text.{Adds};
 use model::table::Cells;
+use program_files::both::read_both;
 use program_files::read;
-use program_files::say::read_or_say;
 use program_files::say::say;
 use text::reply;
 use text::reply::put_reply;
@@ -17,7 +16,7 @@ use text::reply::put_reply;
 pub fn put_listing(out: &mut [u8], table: &[u8], trace: &[u8]) -> usize
     requires { do ⌜ (← ⟦reply::MOST⟧) ≤ length (now out) ⌝ }
     ensures { λ r. ⌜ Counts r (now (out .exit)) ⌝ }
-    ensures { λ r. ⌜ Adds (now (out .entry)) 0 (listed (checked (now (table .entry)) (now (trace .entry)) (replicate resultWords 0))) (now (out .exit)) r ⌝ }
+    ensures { λ r. do ⌜ Adds (now (out .entry)) 0 (listed (checked (now (table .entry)) (now (trace .entry)) (replicate (← ⟦Cells::WORDS⟧ .entry) 0))) (now (out .exit)) r ⌝ }
 {
     let mut room = [0u32; Cells::WORDS];
     let answer = checker::check::check(table, trace, &mut room);
@@ -32,16 +31,11 @@ fn show_reply(table: &[u8], trace: &[u8]) {
 
 pub fn show() {
     let mut table = [0u8; read::ROOM];
-    let got = read_or_say(b"table.rec", &mut table);
-    if !got.whole {
-        return;
-    }
     let mut trace = [0u8; read::ROOM];
-    let more = read_or_say(b"trace.rec", &mut trace);
-    if !more.whole {
-        return;
+    let both = read_both(&mut table, &mut trace);
+    if both.whole {
+        let n = both.table;
+        let k = both.trace;
+        show_reply(&table[..n], &trace[..k]);
     }
-    let n = got.length;
-    let k = more.length;
-    show_reply(&table[..n], &trace[..k]);
 }

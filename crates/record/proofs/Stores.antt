@@ -1,51 +1,72 @@
--- Eight bytes set in turn are a record; and records written one behind the other.
+-- Bytes set in turn are a value, or a record; and pieces written one behind the other.
 use mathlib.Core.Path.{_≡_, ap, sym, _∙_}
-use mathlib.Core.List.{List, _++_}
+use mathlib.Core.List.{List, [], _∷_, _++_}
 use Prim.Native.Nat.{ℕ, suc, _+_, _*_, _/_, _%_, _≤_}
 use native.Mathlib.Omega.{arith}
-use lib.ListN.{length, drop, set}
-use lib.Seq.{sets-eq, take-at, drop-append-add, drop-drop}
+use lib.ListN.{length, drop, set, length-set}
+use lib.Seq.{sets, sets-eq, take-at, drop-append-add, drop-drop}
 use Rattle.model.specs.declared.record.Record.{Record}
 use Rattle.model.specs.Sizes.{recordSize}
-use Rattle.model.specs.Record.{bytesOf}
-use Rattle.record.specs.Bytes.{withRecord}
+use Rattle.model.specs.Record.{fourBytes, bytesOf, recordAt}
+use Rattle.record.specs.Bytes.{valueAt, with, withValue, withRecord}
 
--- the eight stores of the code
-pub record-set : (l : List ℕ) (i : ℕ) (r : Record) (a b c d : ℕ) → i * 8 + 8 ≤ length l
-    → a ≡ r .value % 256 → b ≡ r .value / 256 % 256 → c ≡ r .value / 65536 % 256 → d ≡ r .value / 16777216 % 256
-    → set (set (set (set (set (set (set (set l (i * 8) (r .kind)) (i * 8 + 1) (r .processor)) (i * 8 + 2) (r .register)) (i * 8 + 3) (r .location)) (i * 8 + 4) a) (i * 8 + 5) b) (i * 8 + 6) c) (i * 8 + 7) d
-    ≡ withRecord l i r
-unfolding withRecord
-record-set l i r a b c d h ea eb ec ed =
-    (λ k. set (set (set (set (set (set (set (set l (i * 8) (r .kind)) (p1 k) (r .processor)) (p2 k) (r .register)) (p3 k) (r .location)) (p4 k) (ea k)) (p5 k) (eb k)) (p6 k) (ec k)) (p7 k) (ed k))
-    ∙ sets-eq (bytesOf r) l (i * 8) h
+-- the value of record i
+pub value-in : (l : List ℕ) (i : ℕ) → valueAt l (i * 8 + 4) ≡ recordAt l i .value
+unfolding valueAt recordAt
+value-in l i = rw (p1, p2, p3)
   where
-    p1 : i * 8 + 1 ≡ suc (i * 8)
+    p1 : i * 8 + 4 + 1 ≡ i * 8 + 5
     p1 = omega arith
 
-    p2 : i * 8 + 2 ≡ suc (suc (i * 8))
+    p2 : i * 8 + 4 + 2 ≡ i * 8 + 6
     p2 = omega arith
 
-    p3 : i * 8 + 3 ≡ suc (suc (suc (i * 8)))
+    p3 : i * 8 + 4 + 3 ≡ i * 8 + 7
     p3 = omega arith
 
-    p4 : i * 8 + 4 ≡ suc (suc (suc (suc (i * 8))))
-    p4 = omega arith
+module _ (at : ℕ) where
+  second : at + 1 ≡ suc at
+  second = omega arith
 
-    p5 : i * 8 + 5 ≡ suc (suc (suc (suc (suc (i * 8)))))
-    p5 = omega arith
+  third : at + 2 ≡ suc (suc at)
+  third = omega arith
 
-    p6 : i * 8 + 6 ≡ suc (suc (suc (suc (suc (suc (i * 8))))))
-    p6 = omega arith
+  fourth : at + 3 ≡ suc (suc (suc at))
+  fourth = omega arith
 
-    p7 : i * 8 + 7 ≡ suc (suc (suc (suc (suc (suc (suc (i * 8)))))))
-    p7 = omega arith
+  fifth : at + 4 ≡ suc (suc (suc (suc at)))
+  fifth = omega arith
 
--- i records are written, and the rest of the room is as it was: one record more
+-- the four stores of the code
+pub value-set : (l : List ℕ) (at v a b c d : ℕ) → at + 4 ≤ length l → a ≡ v % 256 → b ≡ v / 256 % 256 → c ≡ v / 65536 % 256 → d ≡ v / 16777216 % 256
+    → set (set (set (set l at a) (at + 1) b) (at + 2) c) (at + 3) d ≡ withValue l at v
+unfolding withValue
+value-set l at v a b c d h ea eb ec ed =
+    (λ k. set (set (set (set l at (ea k)) (second at k) (eb k)) (third at k) (ec k)) (fourth at k) (ed k)) ∙ sets-eq (fourBytes v) l at h
+
+-- four stores, and then the value
+pub record-set : (l : List ℕ) (i : ℕ) (r : Record) → i * 8 + 8 ≤ length l
+    → withValue (set (set (set (set l (i * 8) (r .kind)) (i * 8 + 1) (r .processor)) (i * 8 + 2) (r .register)) (i * 8 + 3) (r .location)) (i * 8 + 4) (r .value)
+    ≡ withRecord l i r
+unfolding withRecord withValue
+record-set l i r h =
+    let at = i * 8 in
+    let four = sets l at (r .kind ∷ r .processor ∷ r .register ∷ r .location ∷ []) in
+    let room : suc (suc (suc (suc at))) + 4 ≤ length four = simp length-set (omega arith) in
+    (λ k. withValue (set (set (set (set l at (r .kind)) (second at k) (r .processor)) (third at k) (r .register)) (fourth at k) (r .location)) (fifth at k) (r .value))
+    ∙ sym (sets-eq (fourBytes (r .value)) four (suc (suc (suc (suc at)))) room) ∙ sets-eq (bytesOf r) l at h
+
+-- what stands before `at` is written, and the rest of the room is as it was: these are written next
+pub next : (front room these : List ℕ) (at : ℕ) → length front ≡ at → with (front ++ drop at room) at these ≡ front ++ these ++ drop (at + length these) room
+next front room these at e = λ k. take-at front (drop at room) at e k ++ these ++ tail k
+  where
+    tail : drop (at + length these) (front ++ drop at room) ≡ drop (at + length these) room
+    tail =
+        ap (λ (n : ℕ). drop (n + length these) (front ++ drop at room)) (sym e) ∙ drop-append-add front (drop at room) (length these)
+        ∙ drop-drop (length these) at room
+
+-- i records are written: one record more
 pub one-more : (front room : List ℕ) (i : ℕ) (r : Record) → length front ≡ i * recordSize
     → withRecord (front ++ drop (i * recordSize) room) i r ≡ front ++ bytesOf r ++ drop (i * recordSize + recordSize) room
 unfolding withRecord
-one-more front room i r e = λ k. take-at front (drop (i * 8) room) (i * 8) e k ++ bytesOf r ++ tail k
-  where
-    tail : drop (i * 8 + 8) (front ++ drop (i * 8) room) ≡ drop (i * 8 + 8) room
-    tail = ap (λ (n : ℕ). drop (n + 8) (front ++ drop (i * 8) room)) (sym e) ∙ drop-append-add front (drop (i * 8) room) 8 ∙ drop-drop 8 (i * 8) room
+one-more front room i r = next front room (bytesOf r) (i * recordSize)

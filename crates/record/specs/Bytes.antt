@@ -1,11 +1,26 @@
--- A file with another record in it.
+-- A file with another value or another record in it.
 use mathlib.Core.List.{List, _++_}
 use Prim.Native.Nat.{ℕ, _+_, _*_}
-use lib.ListN.{take, drop}
+use lib.ListN.{length, take, drop, getD}
 use Rattle.model.specs.declared.record.Record.{Record}
 use Rattle.model.specs.Sizes.{recordSize}
-use Rattle.model.specs.Record.{bytesOf}
+use Rattle.model.specs.Record.{valueOf, fourBytes, bytesOf}
 
--- the bytes with r for their record i; all others are kept
+-- the bytes of a value
+abbrev pub wordSize : ℕ
+wordSize = 4
+
+-- the value in the four bytes from `at` on
+unfoldable pub valueAt : List ℕ → ℕ → ℕ
+valueAt bytes at = valueOf (getD bytes at 0) (getD bytes (at + 1) 0) (getD bytes (at + 2) 0) (getD bytes (at + 3) 0)
+
+-- the bytes with these from `at` on; all others are kept
+abbrev pub with : List ℕ → ℕ → List ℕ → List ℕ
+with bytes at these = take at bytes ++ these ++ drop (at + length these) bytes
+
+unfoldable pub withValue : List ℕ → ℕ → ℕ → List ℕ
+withValue bytes at v = with bytes at (fourBytes v)
+
+-- r for their record i
 unfoldable pub withRecord : List ℕ → ℕ → Record → List ℕ
-withRecord bytes i r = take (i * recordSize) bytes ++ bytesOf r ++ drop (i * recordSize + recordSize) bytes
+withRecord bytes i r = with bytes (i * recordSize) (bytesOf r)

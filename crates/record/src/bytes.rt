@@ -1,21 +1,39 @@
-// A record as its eight bytes.
+// A record as its eight bytes, and a value as its four.
 ghost use mathlib.Core.Path.{_≡_};
 ghost use Prim.Native.Nat.{_+_, _*_, _%_, _≤_, _<_};
 ghost use lib.ListN.{length};
 ghost use Rattle.model.specs.Record.{valueOf, recordAt};
-ghost use Rattle.record.specs.Bytes.{withRecord};
+ghost use Rattle.record.specs.Bytes.{valueAt, withValue, withRecord};
 use model::record::Record;
 
+// The bytes of a value.
+pub const WORD: usize = Record::BYTES - Record::VALUE;
+
+// The numbers of a byte. So often does a value's second byte count, and its third and fourth so often as the one before.
+const BYTE: u32 = 256;
+
+const THIRD: u32 = BYTE * BYTE;
+
+const FOURTH: u32 = BYTE * THIRD;
+
 fn wide(byte: u8) -> u32
-    ensures { λ r. ⌜ (r ≡ byte) × (r < 256) ⌝ }
+    ensures { λ r. do ⌜ (r ≡ byte) × (r < (← ⟦BYTE⟧ .entry)) ⌝ }
 {
     byte as u32
 }
 
-pub fn value(a: u8, b: u8, c: u8, d: u8) -> u32
+fn value(a: u8, b: u8, c: u8, d: u8) -> u32
     ensures { λ r. ⌜ r ≡ valueOf a b c d ⌝ }
 {
-    wide(a) + wide(b) * 256 + wide(c) * 65536 + wide(d) * 16777216
+    wide(a) + wide(b) * BYTE + wide(c) * THIRD + wide(d) * FOURTH
+}
+
+// The value at these bytes from `at` on.
+pub fn value_at(bytes: &[u8], at: usize) -> u32
+    requires { do ⌜ at + (← ⟦WORD⟧) ≤ length (now bytes) ⌝ }
+    ensures { λ r. ⌜ r ≡ valueAt (now (bytes .entry)) at ⌝ }
+{
+    value(bytes[at], bytes[at + 1], bytes[at + 2], bytes[at + 3])
 }
 
 // Record i of a file.
@@ -29,14 +47,25 @@ pub fn read_record(bytes: &[u8], i: usize) -> Record
         processor: bytes[at + 1],
         register: bytes[at + 2],
         location: bytes[at + 3],
-        value: value(bytes[at + 4], bytes[at + 5], bytes[at + 6], bytes[at + 7]),
+        value: value_at(bytes, at + Record::VALUE),
     }
 }
 
-pub fn low(v: u32) -> u8
-    ensures { λ r. ⌜ r ≡ v % 256 ⌝ }
+fn low(v: u32) -> u8
+    ensures { λ r. do ⌜ r ≡ v % (← ⟦BYTE⟧ .entry) ⌝ }
 {
-    (v % 256) as u8
+    (v % BYTE) as u8
+}
+
+// The bytes from `at` on become those of v.
+pub fn put_value(bytes: &mut [u8], at: usize, v: u32)
+    requires { do ⌜ at + (← ⟦WORD⟧) ≤ length (now bytes) ⌝ }
+    ensures { λ _. ⌜ now (bytes .exit) ≡ withValue (now (bytes .entry)) at v ⌝ }
+{
+    bytes[at] = low(v);
+    bytes[at + 1] = low(v / BYTE);
+    bytes[at + 2] = low(v / THIRD);
+    bytes[at + 3] = low(v / FOURTH);
 }
 
 // Record i of the room becomes r.
@@ -45,13 +74,9 @@ pub fn write_record(room: &mut [u8], i: usize, r: Record)
     ensures { λ _. ⌜ now (room .exit) ≡ withRecord (now (room .entry)) i r ⌝ }
 {
     let at = i * Record::BYTES;
-    let v = r.value;
     room[at] = r.kind;
     room[at + 1] = r.processor;
     room[at + 2] = r.register;
     room[at + 3] = r.location;
-    room[at + 4] = low(v);
-    room[at + 5] = low(v / 256);
-    room[at + 6] = low(v / 65536);
-    room[at + 7] = low(v / 16777216);
+    put_value(room, at + Record::VALUE, r.value);
 }

@@ -6,7 +6,7 @@ use model::table::Cells;
 use model::table::Program;
 
 // A processor, register or location is used and too large.
-pub fn too_large(used: [bool; 4], r: Record) -> bool
+pub fn too_large(used: [bool; Record::FIELDS], r: Record) -> bool
     ensures { λ x. do ⌜ x ≡ tooLargeBy (← ⟦Program::PROCESSORS⟧ .entry) (← ⟦Cells::REGISTERS⟧ .entry) (← ⟦Cells::LOCATIONS⟧ .entry) used r ⌝ }
 {
     let p = r.processor as usize;
@@ -18,7 +18,7 @@ pub fn too_large(used: [bool; 4], r: Record) -> bool
 }
 
 // A field is unused and not zero.
-pub fn not_zero(used: [bool; 4], r: Record) -> bool
+pub fn not_zero(used: [bool; Record::FIELDS], r: Record) -> bool
     ensures { λ x. ⌜ x ≡ notZeroBy used r ⌝ }
 {
     (!used[0] & (r.processor != 0))

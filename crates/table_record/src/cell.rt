@@ -1,6 +1,5 @@
 // The cell that an initial record gives.
 ghost use Prim.Native.Nat.{_<_};
-ghost use Rattle.model.specs.Sizes.{resultWords};
 ghost use Rattle.table_record.specs.Enter.{GivesCell};
 use machine_state::state::Machine;
 use model::answer::Refusal;
@@ -16,7 +15,7 @@ pub fn give_cell<'a>(
     c: usize,
     value: u32,
 ) -> Verdict
-    requires { ⌜ c < resultWords ⌝ }
+    requires { do ⌜ c < (← ⟦Cells::WORDS⟧) ⌝ }
     ensures { λ v. ⌜ GivesCell (now (cells .entry)) (now (given .entry)) begun i c value v (now (cells .exit)) (now (given .exit)) ⌝ }
 {
     if begun {

@@ -13,7 +13,7 @@ use model::record::Record;
 use record::fields;
 
 // Tests 3, 4 of record i, whose kind uses these of processor, register, location, value. Its kind is known.
-fn tested(used: [bool; 4], i: usize, r: Record) -> Verdict
+fn tested(used: [bool; Record::FIELDS], i: usize, r: Record) -> Verdict
     requires { ⌜ Known tableUses r × (used ≡ rowOf tableUses (r .kind)) ⌝ }
     ensures { λ v. ⌜ Gives v (ownTests r) i ⌝ }
 {

@@ -3,10 +3,11 @@ ghost use mathlib.Core.Path.{_≡_};
 ghost use Prim.Native.Nat.{_+_, _≤_, _<_};
 ghost use lib.ListN.{length};
 ghost use Rattle.model.specs.Reply.{numberOf};
-ghost use Rattle.model.specs.Sizes.{processors, resultWords};
 ghost use Rattle.text.specs.Text.{Adds};
 ghost use Rattle.text.specs.Reply.{finishedLine, processorLine, processorLines, memoryLine, refusedLine};
+use crate::put::DIGITS;
 use crate::put::LINE_END;
+use crate::put::SPACED;
 use crate::put::put_byte;
 use crate::put::put_number;
 use crate::put::put_numbers;
@@ -16,10 +17,21 @@ use model::number::number;
 use model::table::Cells;
 use model::table::Program;
 
+// No first line is longer: two words and two numbers at most.
+pub const FIRST: usize = 64;
+
+// Nor that of a processor: its letter, its number, its registers and the line's end.
+const PROCESSOR: usize = DIGITS + SPACED * Cells::REGISTERS + 2;
+
+pub const PROCESSORS: usize = PROCESSOR * Program::PROCESSORS;
+
+// Nor that of memory: its letter, the locations and the line's end.
+pub const MEMORY: usize = SPACED * Cells::LOCATIONS + 2;
+
 pub fn put_refused(out: &mut [u8], why: Refusal, place: usize) -> usize
-    requires { ⌜ 64 ≤ length (now out) ⌝ }
+    requires { do ⌜ (← ⟦FIRST⟧) ≤ length (now out) ⌝ }
     ensures { λ r. ⌜ Adds (now (out .entry)) 0 (refusedLine (numberOf why) place) (now (out .exit)) r ⌝ }
-    ensures { λ r. ⌜ r ≤ 64 ⌝ }
+    ensures { λ r. do ⌜ r ≤ (← ⟦FIRST⟧ .entry) ⌝ }
 {
     let at = put_word(out, 0, b"refused ");
     let at = put_number(out, at, number(why));
@@ -29,9 +41,9 @@ pub fn put_refused(out: &mut [u8], why: Refusal, place: usize) -> usize
 }
 
 pub fn put_finished(out: &mut [u8], steps: usize) -> usize
-    requires { ⌜ 64 ≤ length (now out) ⌝ }
+    requires { do ⌜ (← ⟦FIRST⟧) ≤ length (now out) ⌝ }
     ensures { λ r. ⌜ Adds (now (out .entry)) 0 (finishedLine steps) (now (out .exit)) r ⌝ }
-    ensures { λ r. ⌜ r ≤ 64 ⌝ }
+    ensures { λ r. do ⌜ r ≤ (← ⟦FIRST⟧ .entry) ⌝ }
 {
     let at = put_word(out, 0, b"finished ");
     let at = put_number(out, at, steps as u64);
@@ -39,11 +51,11 @@ pub fn put_finished(out: &mut [u8], steps: usize) -> usize
 }
 
 fn put_processor(out: &mut [u8], at: usize, room: &[u32], p: usize) -> usize
-    requires { ⌜ at + 128 ≤ length (now out) ⌝ }
-    requires { ⌜ length (now room) ≡ resultWords ⌝ }
-    requires { ⌜ p < processors ⌝ }
+    requires { do ⌜ at + (← ⟦PROCESSOR⟧) ≤ length (now out) ⌝ }
+    requires { do ⌜ length (now room) ≡ (← ⟦Cells::WORDS⟧) ⌝ }
+    requires { do ⌜ p < (← ⟦Program::PROCESSORS⟧) ⌝ }
     ensures { λ r. ⌜ Adds (now (out .entry)) at (processorLine (now (room .entry)) p) (now (out .exit)) r ⌝ }
-    ensures { λ r. ⌜ r ≤ at + 128 ⌝ }
+    ensures { λ r. do ⌜ r ≤ at + (← ⟦PROCESSOR⟧ .entry) ⌝ }
 {
     let first = p * Cells::REGISTERS;
     let end = first + Cells::REGISTERS;
@@ -54,10 +66,10 @@ fn put_processor(out: &mut [u8], at: usize, room: &[u32], p: usize) -> usize
 }
 
 pub fn put_processors(out: &mut [u8], at: usize, room: &[u32]) -> usize
-    requires { ⌜ at + 512 ≤ length (now out) ⌝ }
-    requires { ⌜ length (now room) ≡ resultWords ⌝ }
-    ensures { λ r. ⌜ Adds (now (out .entry)) at (processorLines (now (room .entry)) processors) (now (out .exit)) r ⌝ }
-    ensures { λ r. ⌜ r ≤ at + 512 ⌝ }
+    requires { do ⌜ at + (← ⟦PROCESSORS⟧) ≤ length (now out) ⌝ }
+    requires { do ⌜ length (now room) ≡ (← ⟦Cells::WORDS⟧) ⌝ }
+    ensures { λ r. do ⌜ Adds (now (out .entry)) at (processorLines (now (room .entry)) (← ⟦Program::PROCESSORS⟧ .entry)) (now (out .exit)) r ⌝ }
+    ensures { λ r. do ⌜ r ≤ at + (← ⟦PROCESSORS⟧ .entry) ⌝ }
 {
     let mut next = at;
     let mut p: usize = 0;
@@ -69,10 +81,10 @@ pub fn put_processors(out: &mut [u8], at: usize, room: &[u32]) -> usize
 }
 
 pub fn put_memory(out: &mut [u8], at: usize, room: &[u32]) -> usize
-    requires { ⌜ at + 256 ≤ length (now out) ⌝ }
-    requires { ⌜ length (now room) ≡ resultWords ⌝ }
+    requires { do ⌜ at + (← ⟦MEMORY⟧) ≤ length (now out) ⌝ }
+    requires { do ⌜ length (now room) ≡ (← ⟦Cells::WORDS⟧) ⌝ }
     ensures { λ r. ⌜ Adds (now (out .entry)) at (memoryLine (now (room .entry))) (now (out .exit)) r ⌝ }
-    ensures { λ r. ⌜ r ≤ at + 256 ⌝ }
+    ensures { λ r. do ⌜ r ≤ at + (← ⟦MEMORY⟧ .entry) ⌝ }
 {
     let first = Cells::ALL_REGISTERS;
     let end = first + Cells::LOCATIONS;

@@ -10,6 +10,9 @@ pub const LINE_END: u8 = 10;
 // As many digits as the largest u64 has.
 pub const DIGITS: usize = 20;
 
+// A number, and the space before it.
+pub const SPACED: usize = DIGITS + 1;
+
 pub fn put_byte(out: &mut [u8], at: usize, byte: u8) -> usize
     requires { ⌜ at < length (now out) ⌝ }
     ensures { λ r. ⌜ Adds (now (out .entry)) at (byte ∷ []) (now (out .exit)) r ⌝ }
@@ -37,7 +40,7 @@ fn digit(d: u64) -> u8
     requires { ⌜ d < 10 ⌝ }
     ensures { λ r. ⌜ r ≡ 48 + d ⌝ }
 {
-    48 + d as u8
+    b'0' + d as u8
 }
 
 // The last digits of n, at most `most`.
@@ -66,9 +69,9 @@ pub fn put_number(out: &mut [u8], at: usize, n: u64) -> usize
 
 // Each number with a space before it.
 pub fn put_numbers(out: &mut [u8], at: usize, numbers: &[u32]) -> usize
-    requires { ⌜ at + 21 * length (now numbers) ≤ length (now out) ⌝ }
+    requires { do ⌜ at + (← ⟦SPACED⟧) * length (now numbers) ≤ length (now out) ⌝ }
     ensures { λ r. ⌜ Adds (now (out .entry)) at (spaced (now (numbers .entry))) (now (out .exit)) r ⌝ }
-    ensures { λ r. ⌜ r ≤ at + 21 * length (now (numbers .entry)) ⌝ }
+    ensures { λ r. do ⌜ r ≤ at + (← ⟦SPACED⟧ .entry) * length (now (numbers .entry)) ⌝ }
 {
     let mut next = at;
     let mut i: usize = 0;

@@ -4,22 +4,25 @@ ghost use Prim.Native.Nat.{_≤_};
 ghost use lib.ListN.{length};
 ghost use Rattle.io.specs.Counts.{Counts};
 ghost use Rattle.model.specs.Reply.{replyOf};
-ghost use Rattle.model.specs.Sizes.{resultWords};
 ghost use Rattle.text.specs.Text.{Adds};
 ghost use Rattle.text.specs.Reply.{listed};
+use crate::lines::FIRST;
+use crate::lines::MEMORY;
+use crate::lines::PROCESSORS;
 use crate::lines::put_finished;
 use crate::lines::put_memory;
 use crate::lines::put_processors;
 use crate::lines::put_refused;
 use model::answer::Answer;
+use model::table::Cells;
 
 // No reply is longer.
-pub const MOST: usize = 1024;
+pub const MOST: usize = FIRST + PROCESSORS + MEMORY;
 
 // The text of an answer and of the room after it, at the start of out. Answers its length.
 pub fn put_reply(out: &mut [u8], answer: Answer, room: &[u32]) -> usize
     requires { do ⌜ (← ⟦MOST⟧) ≤ length (now out) ⌝ }
-    requires { ⌜ length (now room) ≡ resultWords ⌝ }
+    requires { do ⌜ length (now room) ≡ (← ⟦Cells::WORDS⟧) ⌝ }
     ensures { λ r. ⌜ Adds (now (out .entry)) 0 (listed (replyOf answer (now (room .entry)))) (now (out .exit)) r ⌝ }
     ensures { λ r. ⌜ Counts r (now (out .exit)) ⌝ }
 {

@@ -18,7 +18,7 @@ use model::record::Record;
 use record::fields;
 
 // Test 10 of record i, whose kind uses these of processor, register, location, value. Its kind is known.
-fn tested(used: [bool; 4], i: usize, e: Record) -> Verdict
+fn tested(used: [bool; Record::FIELDS], i: usize, e: Record) -> Verdict
     requires { ⌜ Known stepUses e × (used ≡ rowOf stepUses (e .kind)) ⌝ }
     ensures { λ v. ⌜ Gives v (stepTests e) i ⌝ }
 {

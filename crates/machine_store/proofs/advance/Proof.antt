@@ -1,6 +1,7 @@
 use borrow.Author.Needs.{needs}
 use borrow.Author.Tests.{eq-eqb, ne-eqb}
 use mathlib.Core.Path.{sym, _∙_}
+use Rattle.machine_rules.proofs.Table.{in-rows}
 use Rattle.machine_store.proofs.advance.Statement.{statement}
 use Rattle.machine_store.proofs.advance.Tie as tie
 
@@ -18,7 +19,7 @@ advance-spec =
     (λ c. search needs)
     (λ c. search needs)
     (λ c. search needs)
-    (λ c κs. search needs)
+    (λ c κs. in-rows (c .before .pre .known))
     (λ c. search needs)
     (λ c. search needs)
     (λ c. search needs)

@@ -1,3 +1,4 @@
+use mathlib.Core.Path.{_∙_}
 use borrow.Author.Needs.{needs}
 use native.Mathlib.Omega.{arith}
 use lib.ListN.{length-set}
@@ -6,10 +7,14 @@ use Rattle.record.proofs.Stores.{record-set}
 use Rattle.record.proofs.bytes.write_record.Statement.{statement}
 use Rattle.record.proofs.bytes.write_record.Tie as tie
 
+same-length : tie.Need-same-length
+same-length c = simp length-set at (c .before .before .put-value .kept .0)
+
 returns : tie.Need-returns
 returns c =
-    let a = c .before .before .before .before .before .args in
-    record-set (now (a .room)) (a .i) (a .r) _ _ _ _ (search needs) (c .before .before .before .low .ensures) (c .before .before .low2 .ensures) (c .before .low3 .ensures) (c .low4 .ensures)
+    let put = c .before .before in
+    let a = put .before .before .before .args in
+    put .put-value .ensures ∙ record-set (now (a .room)) (a .i) (a .r) (search needs)
 
 pub write-record-spec : {M : Type 1} → statement M
 write-record-spec =
@@ -23,17 +28,7 @@ write-record-spec =
     (λ c. simp length-set (omega arith))
     (λ c. search needs)
     (λ c. simp length-set (omega arith))
-    (λ c κs. search needs)
     (λ c. search needs)
-    (λ c. simp length-set (omega arith))
-    (λ c κs. search needs)
-    (λ c. search needs)
-    (λ c. simp length-set (omega arith))
-    (λ c κs. search needs)
-    (λ c. search needs)
-    (λ c. simp length-set (omega arith))
-    (λ c κs. search needs)
-    (λ c. search needs)
-    (λ c. simp length-set (omega arith))
-    (λ c. search needs)
+    (λ c κs. simp length-set (omega arith))
+    same-length
     returns)

@@ -12,7 +12,7 @@ use Rattle.text.proofs.lines.put_processors.Tie as tie
 
 abbrev Inv-loop : tie.InvT-loop
 Inv-loop out₀ at room next₀ p₀ out next p =
-    (p ≤ 4) × (next ≤ at + 128 * p) × (length out ≡ length out₀) × Adds out₀ at (processorLines room p) out next
+    (p ≤ 4) × (next ≤ at + 106 * p) × (length out ≡ length out₀) × Adds out₀ at (processorLines room p) out next
 
 abbrev μ-loop : tie.MeasureT-loop
 μ-loop out₀ at room next₀ p₀ out next p = 4 - p

@@ -1,0 +1,25 @@
+-- What answering a case does to its room, and to the words in which a check has it.
+use mathlib.Core.Path.{_≡_}
+use mathlib.Core.List.{List, _++_}
+use Prim.Native.Nat.{ℕ, _*_}
+use lib.ListN.{length, drop}
+use Rattle.model.specs.Calls.{checked, completed}
+use Rattle.record.specs.Bytes.{wordSize}
+use Rattle.ambercell.specs.declared.CAnswer.{CAnswer}
+use Rattle.ambercell.specs.Replies.{replyIn}
+use Rattle.program_cases.specs.Words.{wordsIn, bytesIn}
+
+module _ (table trace room words : List ℕ) (answer : CAnswer) (room′ words′ : List ℕ) where
+  -- the whole words of the room are checked in; bytes behind them are kept
+  pub record Checks : Type 0 where
+    pub reply : replyIn answer words′ ≡ checked table trace (wordsIn room (length words))
+    pub written : room′ ≡ bytesIn words′ ++ drop (length words * wordSize) room
+
+  -- a finish is in the room's bytes, and leaves the words as they were
+  pub record Finishes : Type 0 where
+    pub reply : replyIn answer room′ ≡ completed table trace room
+    pub unchanged : words′ ≡ words
+
+abbrev pub Answers : ℕ → ℕ → List ℕ → List ℕ → List ℕ → List ℕ → CAnswer → List ℕ → List ℕ → Type 0
+Answers finish call table trace room words answer room′ words′ =
+    (call ≡ finish → Finishes table trace room words answer room′ words′) × (¬ (call ≡ finish) → Checks table trace room words answer room′ words′)
