@@ -30,7 +30,7 @@ fn check(table: &[u8], trace: &[u8], room: &mut [u8], words: &mut [u32]) -> CAns
     answer
 }
 
-fn answer(call: u32, table: &[u8], trace: &[u8], room: &mut [u8], words: &mut [u32]) -> CAnswer
+pub fn answer(call: u32, table: &[u8], trace: &[u8], room: &mut [u8], words: &mut [u32]) -> CAnswer
     requires { do ⌜ length (now words) * (← ⟦WORD⟧) ≤ length (now room) ⌝ }
     ensures { λ r. do ⌜ Answers (← ⟦Head::FINISH⟧ .entry) call (now (table .entry)) (now (trace .entry)) (now (room .entry)) (now (words .entry)) r (now (room .exit)) (now (words .exit)) ⌝ }
 {

@@ -1,5 +1,7 @@
 // The head of a case: which call, and the bytes of its table, its trace and its room.
-ghost use Rattle.program_cases.specs.Parts.{Fits};
+ghost use mathlib.Core.Path.{_≡_};
+ghost use lib.ListN.{length};
+ghost use Rattle.program_cases.specs.Parts.{Fits, noHead, headIn};
 use crate::part::MOST;
 use crate::part::complain;
 use crate::part::complain_cut;
@@ -29,8 +31,9 @@ impl Head {
 
     pub const FINISH: u32 = 1;
 
-    // After the last case.
+    // Of no case.
     fn none() -> Head
+        ensures { λ r. ⌜ r ≡ noHead ⌝ }
         ensures { λ r. do ⌜ Fits (← ⟦MOST⟧ .entry) r ⌝ }
     {
         Head {
@@ -41,48 +44,47 @@ impl Head {
             room: 0,
         }
     }
-
-    // Of no case that can be answered.
-    fn refused(text: &[u8]) -> Head
-        ensures { λ r. do ⌜ Fits (← ⟦MOST⟧ .entry) r ⌝ }
-    {
-        complain(text);
-        Head::none()
-    }
 }
 
-fn head_of(bytes: &[u8; Head::BYTES]) -> Head
+pub fn head_of(bytes: &[u8]) -> Head
+    requires { do ⌜ length (now bytes) ≡ (← ⟦Head::BYTES⟧) ⌝ }
+    ensures { λ r. do ⌜ r ≡ headIn (← ⟦Head::FINISH⟧ .entry) (← ⟦MOST⟧ .entry) (now (bytes .entry)) ⌝ }
     ensures { λ r. do ⌜ Fits (← ⟦MOST⟧ .entry) r ⌝ }
 {
     let call = value_at(bytes, Head::CALL);
-    if Head::FINISH < call {
-        return Head::refused(b"cases: a call is 0 or 1\n");
-    }
     let table = value_at(bytes, Head::TABLE) as usize;
     let trace = value_at(bytes, Head::TRACE) as usize;
     let room = value_at(bytes, Head::ROOM) as usize;
-    if MOST < table || MOST < trace || MOST < room {
-        return Head::refused(b"cases: a table, a trace or a room has more than 1048576 bytes\n");
+    if (call <= Head::FINISH) & (table <= MOST) & (trace <= MOST) & (room <= MOST) {
+        return Head {
+            whole: true,
+            call: call,
+            table: table,
+            trace: trace,
+            room: room,
+        };
     }
-    Head {
-        whole: true,
-        call: call,
-        table: table,
-        trace: trace,
-        room: room,
-    }
+    Head::none()
 }
 
+// Of the next case that can be answered, if there is one.
 pub fn read_head() -> Head
     ensures { λ r. do ⌜ Fits (← ⟦MOST⟧ .entry) r ⌝ }
 {
     let mut bytes = [0u8; Head::BYTES];
     let came = io::read_full(STDIN_FILENO, &mut bytes);
-    if came == Head::BYTES {
-        return head_of(&bytes);
+    if came == 0 {
+        return Head::none();
     }
-    if came != 0 {
+    if came < Head::BYTES {
         complain_cut();
+        return Head::none();
     }
-    Head::none()
+    let head = head_of(&bytes);
+    if !head.whole {
+        complain(
+            b"cases: a call is 0 or 1, and a table, a trace or a room has at most 1048576 bytes\n",
+        );
+    }
+    head
 }
