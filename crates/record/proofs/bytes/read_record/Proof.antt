@@ -1,6 +1,5 @@
 use mathlib.Core.Path.{_∙_}
 use borrow.Author.Needs.{needs}
-use denote.Ref.{now}
 use Rattle.model.specs.Record.{recordAt}
 use Rattle.record.proofs.Stores.{value-in}
 use Rattle.record.proofs.bytes.read_record.Statement.{statement}
