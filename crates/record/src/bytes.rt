@@ -9,7 +9,7 @@ use model::record::Record;
 // The bytes of a value.
 pub const WORD: usize = Record::BYTES - Record::VALUE;
 
-// The numbers of a byte. So often does a value's second byte count, and its third and fourth so often as the one before.
+// A byte is below it. In a value a byte counts so many times what the byte before counts: the second so much, the third and the fourth as follows.
 const BYTE: u32 = 256;
 
 const THIRD: u32 = BYTE * BYTE;
