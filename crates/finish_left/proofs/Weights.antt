@@ -15,7 +15,7 @@ use Rattle.model.specs.Kinds.{entryOf}
 use Rattle.model.specs.Left.{writes}
 use Rattle.model.proofs.Columns.{entry-weight}
 use Rattle.machine_rules.specs.Steps.{kindOf, stepsOfKind, stepKind, stepCount}
-use Rattle.machine_rules.proofs.Table.{in-rows}
+use Rattle.machine_rules.proofs.Table.{rows, in-rows}
 use Rattle.finish_left.specs.Weight.{stepWeight, weight, heaviest, kindAt, stepKindsFrom, programLeft, Countable}
 
 -- ---- at most five for each instruction
@@ -104,7 +104,7 @@ module _ (kinds : List ℕ) (p : ℕ) where
         unfolding stepCount
         inside = rw (length-map (stepsOfKind kind) kindOf) (c .stands .inside l)
 
-        pub in-table : (kind < 12) × (f < phases)
+        pub in-table : (kind < rows) × (f < phases)
         in-table = (in-rows (c .stands .each a l .0), let o = c .stands .inside l in omega (arith, few-steps kind .0))
 
         left-is : (i : ℕ) → drop i (stepKindsFrom kinds p a (count - a)) ≡ drop i (steps a ++ next)

@@ -10,7 +10,7 @@ use Rattle.model.specs.Rules.{Event}
 use Rattle.model.specs.Code.{Columns, countIn, instructionAt}
 use Rattle.machine_rules.specs.Steps.{stepKind}
 use Rattle.machine_rules.specs.Programs.{Fetched}
-use Rattle.machine_rules.proofs.Table.{in-rows}
+use Rattle.machine_rules.proofs.Table.{rows, in-rows}
 use Rattle.machine_state.specs.State.{State}
 use Rattle.machine_state.specs.Packed.{standsAt, phaseAt, issuedAt, drainedAt, holderIn, atIn, issuedIn, drainedIn, countsIn, stateIn, columnsIn}
 use Rattle.machine_store.specs.Stores.{advanced, Onward}
@@ -83,7 +83,7 @@ module _ (codes constants cells locations values marks : List ℕ) (u : HasMore 
       here : Fetched g (i .processor) (getD (m .at) (i .processor) 0) i
       here = standing.here _ _ _ _ _ _ ready p low within i read
 
-      pub known-kind : (i .kind < 12) × (getD marks (phaseAt p) 0 < phases)
+      pub known-kind : (i .kind < rows) × (getD marks (phaseAt p) 0 < phases)
       known-kind = (in-rows (here .kind), standing.low-phase _ _ _ _ _ _ ready p low)
 
       module _ (next : ℕ) (is : next ≡ stepKind (i .kind) (getD marks (phaseAt p) 0)) where

@@ -23,7 +23,7 @@ use Rattle.machine_rules.specs.Guards.{permits}
 use Rattle.machine_rules.specs.Steps.{stepsOfKind, stepKind}
 use Rattle.machine_rules.specs.Programs.{fetched, Fetched}
 use Rattle.machine_rules.specs.Offers.{oldestIn, offeredIn}
-use Rattle.machine_rules.proofs.Table.{in-rows}
+use Rattle.machine_rules.proofs.Table.{rows, in-rows}
 use Rattle.machine_state.specs.State.{State}
 use Rattle.machine_state.specs.Packed.{memoryAt, standsAt, phaseAt, issuedAt, drainedAt, holderIn, countsIn, stateIn, columnsIn}
 use Rattle.machine_store.specs.Stores.{oneMoreDrained, advanced, Onward}
@@ -208,7 +208,7 @@ module _ (codes constants cells locations values marks : List ℕ) (ready : Read
       own-low : i .processor < processors
       own-low = standing.own-low _ _ _ _ _ _ ready p h some i read
 
-      pub known-kind : (i .kind < 12) × (getD marks (phaseAt p) 0 < phases)
+      pub known-kind : (i .kind < rows) × (getD marks (phaseAt p) 0 < phases)
       known-kind = (in-rows (here .kind), standing.low-phase _ _ _ _ _ _ ready p h)
 
       kind-is : stepKind (i .kind) (getD marks (phaseAt p) 0) ≡ stepKind (i .kind) (getD (m .phase) (i .processor) 0)

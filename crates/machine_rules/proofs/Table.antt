@@ -12,8 +12,11 @@ use Rattle.model.specs.Sizes.{phases}
 use Rattle.model.specs.Kinds.{tableUses, tableRows}
 use Rattle.machine_rules.specs.Steps.{stepKind, stepCount}
 
--- the code has a row for each kind
-pub in-rows : {k : ℕ} → k < tableRows → k < 12
+-- the rows of the code's tables, Role::KINDS: one for each kind
+abbrev pub rows : ℕ
+rows = 12
+
+pub in-rows : {k : ℕ} → k < tableRows → k < rows
 unfolding tableUses
 in-rows h = h
 

@@ -7,8 +7,8 @@ use native.Mathlib.Omega.{arith}
 use lib.ListN.{length, getD, length-append, List·getD-append}
 use lib.Seq.{getD-append-add}
 use Rattle.model.specs.declared.record.Record.{Record}
-use Rattle.model.specs.Sizes.{recordSize, values}
-use Rattle.model.specs.Record.{valueOf, recordAt, recordsFrom, records, bytesOf, fileOf}
+use Rattle.model.specs.Sizes.{recordSize, wordSize, values}
+use Rattle.model.specs.Record.{valueOf, valueAt, recordAt, recordsFrom, records, bytesOf, fileOf}
 use Rattle.model.specs.Table.{Whole}
 use Rattle.model.specs.Lists.{All}
 
@@ -51,23 +51,36 @@ at bytes n = record {
   processor = getD bytes (n + 1) 0;
   register = getD bytes (n + 2) 0;
   location = getD bytes (n + 3) 0;
-  value = valueOf (getD bytes (n + 4) 0) (getD bytes (n + 5) 0) (getD bytes (n + 6) 0) (getD bytes (n + 7) 0);
+  value = valueAt bytes (n + 4);
 }
 
 record-at : (bytes : List ℕ) (i : ℕ) → recordAt bytes i ≡ at bytes (i * recordSize)
 unfolding recordAt at
 record-at bytes i = refl
 
--- two files that have the same eight bytes there
+first : (a b : List ℕ) (n m : ℕ) → getD a (n + 0) 0 ≡ getD b (m + 0) 0 → getD a n 0 ≡ getD b m 0
+first a b n m e = ap (λ (j : ℕ). getD a j 0) (sym (add-zero n)) ∙ e ∙ ap (λ (j : ℕ). getD b j 0) (add-zero m)
+
+-- two files that have the same four bytes there, or the same eight
+value-same : (a b : List ℕ) (n m : ℕ) → ((k : ℕ) → k < wordSize → getD a (n + k) 0 ≡ getD b (m + k) 0) → valueAt a n ≡ valueAt b m
+unfolding valueAt
+value-same a b n m h = λ i. valueOf (first a b n m (h 0 (omega arith)) i) (h 1 (omega arith) i) (h 2 (omega arith) i) (h 3 (omega arith) i)
+
 at-same : (a b : List ℕ) (n m : ℕ) → ((k : ℕ) → k < recordSize → getD a (n + k) 0 ≡ getD b (m + k) 0) → at a n ≡ at b m
 unfolding at
 at-same a b n m h = λ i. record {
-  kind = (ap (λ (j : ℕ). getD a j 0) (sym (add-zero n)) ∙ h 0 (omega arith) ∙ ap (λ (j : ℕ). getD b j 0) (add-zero m)) i;
+  kind = first a b n m (h 0 (omega arith)) i;
   processor = h 1 (omega arith) i;
   register = h 2 (omega arith) i;
   location = h 3 (omega arith) i;
-  value = valueOf (h 4 (omega arith) i) (h 5 (omega arith) i) (h 6 (omega arith) i) (h 7 (omega arith) i);
+  value = value-same a b (n + 4) (m + 4) last i;
 }
+  where
+    last : (k : ℕ) → k < wordSize → getD a (n + 4 + k) 0 ≡ getD b (m + 4 + k) 0
+    last k l =
+        let e : n + 4 + k ≡ n + (4 + k) = omega arith in
+        let f : m + (4 + k) ≡ m + 4 + k = omega arith in
+        ap (λ (j : ℕ). getD a j 0) e ∙ h (4 + k) (omega arith) ∙ ap (λ (j : ℕ). getD b j 0) f
 
 -- in the front, and behind it
 front-record : (a b : List ℕ) (i : ℕ) → i * recordSize + recordSize ≤ length a → recordAt (a ++ b) i ≡ recordAt a i

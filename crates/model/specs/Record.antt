@@ -9,8 +9,13 @@ use Rattle.model.specs.Sizes.{recordSize}
 abbrev pub valueOf : ℕ → ℕ → ℕ → ℕ → ℕ
 valueOf a b c d = a + b * 256 + c * 65536 + d * 16777216
 
+-- the value in the four bytes from `at` on
+unfoldable pub valueAt : List ℕ → ℕ → ℕ
+valueAt bytes at = valueOf (getD bytes at 0) (getD bytes (at + 1) 0) (getD bytes (at + 2) 0) (getD bytes (at + 3) 0)
+
 -- record i of a file: kind, processor, register, location, value
 unfoldable pub recordAt : List ℕ → ℕ → Record
+unfolding valueAt
 recordAt bytes i =
     let at = i * recordSize in
     record {
@@ -18,7 +23,7 @@ recordAt bytes i =
       processor = getD bytes (at + 1) 0;
       register = getD bytes (at + 2) 0;
       location = getD bytes (at + 3) 0;
-      value = valueOf (getD bytes (at + 4) 0) (getD bytes (at + 5) 0) (getD bytes (at + 6) 0) (getD bytes (at + 7) 0);
+      value = valueAt bytes (at + 4);
     }
 
 -- n records from record i on

@@ -16,9 +16,12 @@ instructionsEach = 16
 abbrev pub resultWords : ℕ
 resultWords = processors * registersEach + locations
 
--- the bytes of a record
+-- the bytes of a record, and of a value
 abbrev pub recordSize : ℕ
 recordSize = 8
+
+abbrev pub wordSize : ℕ
+wordSize = 4
 
 -- no instruction has more program steps
 abbrev pub phases : ℕ

@@ -7,8 +7,9 @@ use native.Mathlib.Numerals.{add-one}
 use native.Mathlib.Omega.{arith}
 use lib.ListN.{length, take, drop, getD, set, length-append}
 use lib.Seq.{drop-cons, set-at, take-length, drop-length, length-take-le}
-use Rattle.model.specs.Record.{fourBytes}
-use Rattle.record.specs.Bytes.{wordSize, valueAt, withValue}
+use Rattle.model.specs.Sizes.{wordSize}
+use Rattle.model.specs.Record.{valueAt, fourBytes}
+use Rattle.record.specs.Bytes.{withValue}
 use Rattle.record.proofs.Stores.{next}
 use Rattle.program_cases.specs.Words.{wordsIn, bytesIn}
 

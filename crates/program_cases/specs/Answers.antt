@@ -4,7 +4,7 @@ use mathlib.Core.List.{List, _++_}
 use Prim.Native.Nat.{ℕ, _*_}
 use lib.ListN.{length, drop}
 use Rattle.model.specs.Calls.{checked, completed}
-use Rattle.record.specs.Bytes.{wordSize}
+use Rattle.model.specs.Sizes.{wordSize}
 use Rattle.ambercell.specs.declared.CAnswer.{CAnswer}
 use Rattle.ambercell.specs.Replies.{replyIn}
 use Rattle.program_cases.specs.Words.{wordsIn, bytesIn}

@@ -3,7 +3,8 @@ use mathlib.Core.Bool.{true, false, cond, _&&_}
 use mathlib.Core.List.{List}
 use Prim.Native.Nat.{ℕ, _*_, _≤_}
 use lib.Dec.{leb}
-use Rattle.record.specs.Bytes.{wordSize, valueAt}
+use Rattle.model.specs.Sizes.{wordSize}
+use Rattle.model.specs.Record.{valueAt}
 use Rattle.program_cases.specs.declared.head.Head.{Head}
 
 -- its parts are no longer than the room for them

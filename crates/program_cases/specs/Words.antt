@@ -1,9 +1,9 @@
 -- Words as bytes: four each, lowest first.
 use mathlib.Core.List.{List, [], _∷_, _++_}
 use Prim.Native.Nat.{ℕ, zero, suc, _+_, _*_, _/_, _%_}
-use Rattle.model.specs.Sizes.{values}
-use Rattle.model.specs.Record.{fourBytes}
-use Rattle.record.specs.Bytes.{wordSize, valueAt, withValue}
+use Rattle.model.specs.Sizes.{wordSize, values}
+use Rattle.model.specs.Record.{valueAt, fourBytes}
+use Rattle.record.specs.Bytes.{withValue}
 
 -- the first n words of these bytes
 unfoldable pub wordsIn : List ℕ → ℕ → List ℕ

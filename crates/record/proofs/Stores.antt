@@ -7,22 +7,8 @@ use lib.ListN.{length, drop, set, length-set}
 use lib.Seq.{sets, sets-eq, take-at, drop-append-add, drop-drop}
 use Rattle.model.specs.declared.record.Record.{Record}
 use Rattle.model.specs.Sizes.{recordSize}
-use Rattle.model.specs.Record.{fourBytes, bytesOf, recordAt}
-use Rattle.record.specs.Bytes.{valueAt, with, withValue, withRecord}
-
--- the value of record i
-pub value-in : (l : List ℕ) (i : ℕ) → valueAt l (i * 8 + 4) ≡ recordAt l i .value
-unfolding valueAt recordAt
-value-in l i = rw (p1, p2, p3)
-  where
-    p1 : i * 8 + 4 + 1 ≡ i * 8 + 5
-    p1 = omega arith
-
-    p2 : i * 8 + 4 + 2 ≡ i * 8 + 6
-    p2 = omega arith
-
-    p3 : i * 8 + 4 + 3 ≡ i * 8 + 7
-    p3 = omega arith
+use Rattle.model.specs.Record.{fourBytes, bytesOf}
+use Rattle.record.specs.Bytes.{with, withValue, withRecord}
 
 module _ (at : ℕ) where
   second : at + 1 ≡ suc at

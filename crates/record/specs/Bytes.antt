@@ -1,18 +1,10 @@
 -- A file with another value or another record in it.
 use mathlib.Core.List.{List, _++_}
 use Prim.Native.Nat.{ℕ, _+_, _*_}
-use lib.ListN.{length, take, drop, getD}
+use lib.ListN.{length, take, drop}
 use Rattle.model.specs.declared.record.Record.{Record}
 use Rattle.model.specs.Sizes.{recordSize}
-use Rattle.model.specs.Record.{valueOf, fourBytes, bytesOf}
-
--- the bytes of a value
-abbrev pub wordSize : ℕ
-wordSize = 4
-
--- the value in the four bytes from `at` on
-unfoldable pub valueAt : List ℕ → ℕ → ℕ
-valueAt bytes at = valueOf (getD bytes at 0) (getD bytes (at + 1) 0) (getD bytes (at + 2) 0) (getD bytes (at + 3) 0)
+use Rattle.model.specs.Record.{fourBytes, bytesOf}
 
 -- the bytes with these from `at` on; all others are kept
 abbrev pub with : List ℕ → ℕ → List ℕ → List ℕ

@@ -2,8 +2,8 @@
 ghost use mathlib.Core.Path.{_≡_};
 ghost use Prim.Native.Nat.{_+_, _*_, _%_, _≤_, _<_};
 ghost use lib.ListN.{length};
-ghost use Rattle.model.specs.Record.{valueOf, recordAt};
-ghost use Rattle.record.specs.Bytes.{valueAt, withValue, withRecord};
+ghost use Rattle.model.specs.Record.{valueOf, valueAt, recordAt};
+ghost use Rattle.record.specs.Bytes.{withValue, withRecord};
 use model::record::Record;
 
 // The bytes of a value.

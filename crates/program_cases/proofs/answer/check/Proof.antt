@@ -4,7 +4,7 @@ use Prim.Native.Nat.{ℕ, _*_}
 use borrow.Author.Needs.{needs}
 use lib.ListN.{length, drop}
 use Rattle.model.specs.Calls.{checked}
-use Rattle.record.specs.Bytes.{wordSize}
+use Rattle.model.specs.Sizes.{wordSize}
 use Rattle.program_cases.specs.Words.{bytesIn}
 use Rattle.program_cases.proofs.answer.check.Statement.{statement}
 use Rattle.program_cases.proofs.answer.check.Tie as tie

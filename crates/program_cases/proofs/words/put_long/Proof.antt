@@ -2,8 +2,8 @@ use mathlib.Core.Path.{_∙_, ap}
 use mathlib.Core.List.{List}
 use Prim.Native.Nat.{ℕ, _+_, _/_}
 use borrow.Author.Needs.{needs}
-use Rattle.model.specs.Sizes.{values}
-use Rattle.record.specs.Bytes.{wordSize, withValue}
+use Rattle.model.specs.Sizes.{wordSize, values}
+use Rattle.record.specs.Bytes.{withValue}
 use Rattle.program_cases.specs.Words.{withLong}
 use Rattle.program_cases.proofs.words.put_long.Statement.{statement}
 use Rattle.program_cases.proofs.words.put_long.Tie as tie

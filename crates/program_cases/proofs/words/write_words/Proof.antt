@@ -4,7 +4,8 @@ use mathlib.Core.List.{List, _++_}
 use Prim.Native.Nat.{ℕ, _*_, _-_, _≤_}
 use borrow.Author.Needs.{needs}
 use lib.ListN.{length, take, drop, getD}
-use Rattle.record.specs.Bytes.{wordSize, withValue}
+use Rattle.model.specs.Sizes.{wordSize}
+use Rattle.record.specs.Bytes.{withValue}
 use Rattle.program_cases.specs.Words.{bytesIn}
 use Rattle.program_cases.proofs.Written.{writes-one, writes-all}
 use Rattle.program_cases.proofs.words.write_words.Statement.{statement}

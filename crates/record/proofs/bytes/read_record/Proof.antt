@@ -1,13 +1,11 @@
-use mathlib.Core.Path.{_∙_}
 use borrow.Author.Needs.{needs}
 use Rattle.model.specs.Record.{recordAt}
-use Rattle.record.proofs.Stores.{value-in}
 use Rattle.record.proofs.bytes.read_record.Statement.{statement}
 use Rattle.record.proofs.bytes.read_record.Tie as tie
 
 returns : tie.Need-returns
 unfolding recordAt
-returns c = rw (c .value-at .ensures ∙ value-in _ _)
+returns c = rw (c .value-at .ensures)
 
 pub read-record-spec : {M : Type 1} → statement M
 read-record-spec =

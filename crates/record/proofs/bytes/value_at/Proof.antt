@@ -1,5 +1,5 @@
 use borrow.Author.Needs.{needs}
-use Rattle.record.specs.Bytes.{valueAt}
+use Rattle.model.specs.Record.{valueAt}
 use Rattle.record.proofs.bytes.value_at.Statement.{statement}
 use Rattle.record.proofs.bytes.value_at.Tie as tie
 
