@@ -10,13 +10,14 @@ use lib.Seq.{slice, length-slice}
 use Rattle.model.specs.declared.record.Record.{Record}
 use Rattle.model.specs.Sizes.{processors, instructionsEach}
 use Rattle.model.specs.Program.{ProgramStep}
+use Rattle.model.specs.Rules.{kindOf}
 use Rattle.model.specs.Kinds.{tableUses, tableRows, entryOf}
 use Rattle.model.specs.Left.{writes, leftOf, leftIn as modelLeftIn, left}
 use Rattle.model.specs.Code.{Columns, placeAt, stepsIn, instructionAt, stepsFrom, countIn, Fits}
 use Rattle.model.proofs.Roles.{ofKind}
 use Rattle.model.proofs.Rows.{below}
 use Rattle.model.proofs.Columns.{stepsAt}
-use Rattle.machine_rules.specs.Steps.{kindOf, stepsOfKind}
+use Rattle.machine_rules.specs.Steps.{stepsOfKind}
 use Rattle.machine_rules.specs.Offers.{writesIn}
 use Rattle.machine_state.specs.State.{State}
 use Rattle.machine.specs.View.{leftFrom, todoIn, waitingIn, processorOf, machineOf}

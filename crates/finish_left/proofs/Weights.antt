@@ -11,10 +11,11 @@ use lib.Dec.{eqb}
 use borrow.Author.Tests.{eqb-true, eqb-false}
 use Rattle.model.specs.Sizes.{phases}
 use Rattle.model.specs.Program.{ProgramStep, read, write, fence, lock, unlock, local}
+use Rattle.model.specs.Rules.{kindOf}
 use Rattle.model.specs.Kinds.{entryOf}
 use Rattle.model.specs.Left.{writes}
 use Rattle.model.proofs.Columns.{entry-weight}
-use Rattle.machine_rules.specs.Steps.{kindOf, stepsOfKind, stepKind, stepCount}
+use Rattle.machine_rules.specs.Steps.{stepsOfKind, stepKind, stepCount}
 use Rattle.machine_rules.proofs.Table.{rows, in-rows}
 use Rattle.finish_left.specs.Weight.{stepWeight, weight, heaviest, kindAt, stepKindsFrom, programLeft, Countable}
 

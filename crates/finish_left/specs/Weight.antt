@@ -5,9 +5,10 @@ use Prim.Native.Nat.{ℕ, zero, suc, _+_, _-_, _*_, _≤_, _<_}
 use lib.ListN.{getD, drop}
 use lib.Dec.{eqb}
 use Rattle.model.specs.Sizes.{processors, instructionsEach, stepsEach}
+use Rattle.model.specs.Rules.{kindOf}
 use Rattle.model.specs.Kinds.{tableRows}
 use Rattle.model.specs.Code.{placeAt}
-use Rattle.machine_rules.specs.Steps.{kindOf, stepsOfKind, stepCount}
+use Rattle.machine_rules.specs.Steps.{stepsOfKind, stepCount}
 
 -- of a program step, by its kind
 abbrev pub stepWeight : ℕ → ℕ

@@ -22,7 +22,6 @@ use Rattle.model.proofs.Movers.{mover-moves, mover-busy}
 use Rattle.model.proofs.Finish.{Finisher, finisher}
 use Rattle.machine_rules.specs.Steps.{stepKind}
 use Rattle.machine_rules.specs.Programs.{fetched, Fetched}
-use Rattle.machine_rules.specs.Guards.{permits}
 use Rattle.machine_rules.specs.Offers.{oldestIn, offeredIn}
 use Rattle.machine_state.specs.State.{State}
 use Rattle.machine.specs.View.{machineOf}
@@ -84,7 +83,7 @@ module _ (g : Columns) (m : State) (u : HasMore g m) where
     given : (o : Move) → offer g m i offered ≡ some o → Given o
     given o = go (eqb (offered .kind) 0) refl
       where
-        go : (b : Bool) → eqb (offered .kind) 0 ≡ b → cond b none (move offered (permits (offered .kind) (m .holder) q (isDry m i)) (machineOf g (afterEvent m i offered))) ≡ some o → Given o
+        go : (b : Bool) → eqb (offered .kind) 0 ≡ b → cond b none (move offered (machineOf g (afterEvent m i offered))) ≡ some o → Given o
         go true z w = absurd (none-some w)
         go false z w = record { some-kind = let n = eqb-false (offered .kind) 0 z in omega arith; event = ap (λ (o : Move). o .event) (sym (some-inj w)); after = ap (λ (o : Move). o .after) (sym (some-inj w)) }
 

@@ -11,7 +11,6 @@ pub mod Lengths
 pub mod Keeps
 pub mod Taken
 -- ---- the code's functions
-pub mod Propers
 pub mod Stored
 pub mod Standing
 pub mod Nexts

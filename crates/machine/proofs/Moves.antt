@@ -1,6 +1,6 @@
--- What the code offers is the model's move: its event, whether it is allowed, and the machine after it.
+-- What the code offers is the model's move: its event, and the machine after it.
 use mathlib.Core.Path.{_≡_, refl, sym, ap, _∙_}
-use mathlib.Core.Bool.{Bool, true, false, cond, _&&_}
+use mathlib.Core.Bool.{Bool, true, false, cond}
 use mathlib.Core.Option.{Option, none}
 use mathlib.Core.List.{List, [], _∷_, _++_}
 use Prim.Native.Nat.{ℕ, suc, _+_, _*_, _≤_, _<_}
@@ -21,20 +21,19 @@ use Rattle.model.specs.Left.{writes}
 use Rattle.model.proofs.Rows.{slice-get}
 use Rattle.machine.specs.View.{waitingIn, todoIn, processorOf, holderOf, machineOf}
 use Rattle.machine_rules.specs.Steps.{stepKind, stepCount}
-use Rattle.machine.specs.Arrays.{isDry, oldestOf, nextOf}
+use Rattle.machine.specs.Arrays.{oldestOf, nextOf}
 use Rattle.machine_rules.specs.Offers.{oldestIn, nextIn}
-use Rattle.machine_rules.specs.Guards.{notBlockedIn, permits}
 use Rattle.machine.specs.Stores.{advancedIn, afterDrain, assignedIn, heldIn, afterEvent}
 use Rattle.machine.specs.Ready.{Own, ReadyAt, Ready}
 use Rattle.machine.proofs.Todo.{targetOf, sourceOf, stepFor, issues, exchanges-is, by-kind}
 use Rattle.machine.proofs.Logs.{pushedIn, newerIn, none-waits, some-wait, waits-none}
 use Rattle.machine.proofs.Changes.{Changes, same-processors, then, processor-is, machine-is, withRegister, assigned-changes, asideIn, withKept, kept-changes, withWrite, pushed-changes, drained-changes, advanced-changes}
-use Rattle.machine.proofs.Locks.{not-blocked, is-free, holds-is, held-by}
+use Rattle.machine.proofs.Locks.{held-by}
 use Rattle.machine_state.specs.State.{State, parts}
 
 -- i is the instruction that the processor stands at
 abbrev pub offer : Columns → State → Record → Event → Option Move
-offer g m i e = cond (eqb (e .kind) 0) none (move e (permits (e .kind) (m .holder) (i .processor) (isDry m i)) (machineOf g (afterEvent m i e)))
+offer g m i e = cond (eqb (e .kind) 0) none (move e (machineOf g (afterEvent m i e)))
 
 module _ (g : Columns) (m : State) (ready : Ready g m) (i : Record) (own : Own i) where
   abbrev p : ℕ
@@ -86,7 +85,7 @@ module _ (g : Columns) (m : State) (ready : Ready g m) (i : Record) (own : Own i
       go false e =
           let o = at .order in
           rw (some-wait m p (own .processor) (ready .long) (omega (arith, eqb-false d n e)) few)
-          (λ j. move (event 3 p x v) (not-blocked (m .holder) p j) (drained-is x v j))
+          (λ j. move (event 3 p x v) (drained-is x v j))
 
   -- ---- the machine after a program step that leaves `rest`
 
@@ -163,19 +162,19 @@ module _ (g : Columns) (m : State) (ready : Ready g m) (i : Record) (own : Own i
 
     offers-fence : Offers 4
     unfolding nextMove nextIn
-    offers-fence = λ j. move (F p) (empty-is j) (fenced j)
+    offers-fence = ap (move (F p)) fenced
 
     offers-lock : Offers 5
-    unfolding nextMove nextIn machineOf
-    offers-lock = λ j. move (L p) (is-free (m .holder) j && empty-is j) (locked j)
+    unfolding nextMove nextIn
+    offers-lock = ap (move (L p)) locked
 
     offers-unlock : Offers 6
-    unfolding nextMove nextIn machineOf
-    offers-unlock = λ j. move (U p) (holds-is (m .holder) p (own .processor) j && empty-is j) (unlocked j)
+    unfolding nextMove nextIn
+    offers-unlock = ap (move (U p)) unlocked
 
     offers-local : Offers 7
     unfolding nextMove nextIn
-    offers-local = λ j. move (N p) true (set-is j)
+    offers-local = ap (move (N p)) set-is
 
     seen-is : seen M p (i .location) ≡ newest (waitingIn m p) (i .location) (getD (m .memory) (i .location) 0)
     unfolding seen machineOf
@@ -185,8 +184,8 @@ module _ (g : Columns) (m : State) (ready : Ready g m) (i : Record) (own : Own i
     unfolding nextMove nextIn machineOf waitingIn
     offers-read =
         let x = i .location in
-        (λ j. move (R p x (seen-is j)) (not-blocked (m .holder) p j) (withProcessor M p (received (processor M p) rest (targetOf i) (seen-is j))))
-        ∙ ap (move (R p x (newest (waitingIn m p) x (getD (m .memory) x 0))) (notBlockedIn (m .holder) p)) (read-is x (newest (waitingIn m p) x (getD (m .memory) x 0)))
+        (λ j. move (R p x (seen-is j)) (withProcessor M p (received (processor M p) rest (targetOf i) (seen-is j))))
+        ∙ ap (move (R p x (newest (waitingIn m p) x (getD (m .memory) x 0)))) (read-is x (newest (waitingIn m p) x (getD (m .memory) x 0)))
 
     issued-is : issued (processor M p) (sourceOf i) ≡ actsOf (i .kind) .issues (i .value) (getD (m .kept) p 0) (getD (m .registers) (registerOf i) 0)
     unfolding processorOf
@@ -197,7 +196,7 @@ module _ (g : Columns) (m : State) (ready : Ready g m) (i : Record) (own : Own i
 
     offers-write : n < instructionsEach → Offers 2
     unfolding nextMove nextIn
-    offers-write r = λ j. move (W p (i .location) (issued-is j)) true (wrote-is (i .location) _ r issued-is j)
+    offers-write r = λ j. move (W p (i .location) (issued-is j)) (wrote-is (i .location) _ r issued-is j)
 
     -- the kind is that of the next program step
     room-to-write : todoIn g m p ≡ write (i .location) (sourceOf i) ∷ rest → n < instructionsEach

@@ -1,36 +1,34 @@
 -- The step that the code takes is the one that the instruction comes to, kind by kind.
 use mathlib.Core.Path.{_≡_, refl, sym, ap, _∙_, subst}
-use mathlib.Core.Bool.{Bool, true, false, cond, _&&_}
+use mathlib.Core.Bool.{Bool, true, cond, not, _&&_}
 use mathlib.Core.List.{List}
 use Prim.Native.Nat.{ℕ, _<_}
 use lib.ListN.{length, getD, set}
 use lib.Dec.{eqb}
+use borrow.Author.Tests.{eq-eqb}
 use Rattle.model.specs.declared.answer.Attempt.{Attempt}
 use Rattle.model.specs.declared.answer.Attempt.the-variants.{Taken, Turned}
+use Rattle.model.specs.declared.answer.Condition.{Condition}
+use Rattle.model.specs.declared.answer.Condition.the-variants.{AnotherKind, NothingWaits, LockHeld, NotEmpty, NotRight}
 use Rattle.model.specs.declared.record.Record.{Record}
 use Rattle.model.specs.Fields.{Proper}
 use Rattle.model.specs.Kinds.{stepUses}
-use Rattle.model.specs.Rules.{Event, event}
-use Rattle.model.specs.Code.{instructionOf, actsOf, taken, judged}
-use Rattle.model.specs.Step.{same, newest}
+use Rattle.model.specs.Rules.{Event, event, conditions}
+use Rattle.model.specs.Code.{instructionOf, actsOf, taken}
+use Rattle.model.specs.Step.{same, newest, judged}
 use Rattle.model.proofs.Bools.{self}
-use Rattle.machine_rules.specs.Guards.{nobody, permits}
+use Rattle.machine_rules.specs.Guards.{nobody}
 use Rattle.machine_rules.specs.Offers.{waitingFrom, nextIn}
 use Rattle.machine_state.specs.State.{State}
-use Rattle.machine_state.specs.Packed.{registersIn, memoryIn, keptIn, issuedAt, drainedAt, holderIn, issuedIn, drainedIn, stateIn}
+use Rattle.machine_state.specs.Packed.{registersIn, memoryIn, keptIn, issuedAt, drainedAt, issuedIn, drainedIn, stateIn}
 use Rattle.machine_state.proofs.Rows as rows
-use Rattle.machine_take.specs.Takes.{names, cellOf, emptyIn, allows, Reads, Writes, Holds, Assigns}
-use Rattle.machine.specs.Arrays as theory
+use Rattle.machine_take.specs.Takes.{names, cellOf, metIn, attempted, Reads, Writes, Holds, Assigns}
 use Rattle.machine.specs.Arrays.{nextOf}
 use Rattle.machine.specs.Stores.{carriedOut}
-use Rattle.machine.specs.Next.{nextAllowed, TakesNext}
+use Rattle.machine.specs.Next.{metOf, attemptedOf, TakesNext}
 use Rattle.machine.specs.Ready.{Own}
-use Rattle.machine.proofs.Propers.{no-register, Bare}
+use Rattle.model.proofs.Events.{no-register, Bare}
 use Rattle.machine.proofs.Stored as stored
-
-and-yes : (b : Bool) → b ≡ b && true
-and-yes true = refl
-and-yes false = refl
 
 -- an event of kind k and processor p, without a register
 pub same-names : (e : Event) (k p y w : ℕ) → e .kind ≡ k → e .processor ≡ p → e .register ≡ 0 → names e y w ≡ same e (event k p y w)
@@ -58,17 +56,22 @@ module _ (cells locations values marks : List ℕ) (i e : Record) (r : Attempt) 
   d-is : getD marks (drainedAt p) 0 ≡ getD (drainedIn marks) p 0
   d-is = sym (rows.drained-is marks p h)
 
-  -- the test: the step's kind, location and value are named, lock and buffer allow it
-  tested : (k y w : ℕ) → e .kind ≡ k → event k p y w ≡ nextOf m o k → r ≡ judged (names e y w && permits k (holderIn marks) p (emptyIn marks p)) → r ≡ judged (nextAllowed m o e)
+  -- the conditions: the step's kind is the next one; `right` says whether location and value are
+  tested : (k y w : ℕ) → e .kind ≡ k → event k p y w ≡ nextOf m o k → (right : Bool) → right ≡ names e y w → r ≡ attempted k marks p right → r ≡ attemptedOf m o (nextOf m o (e .kind)) e
   unfolding stateIn
-  tested k y w z next f =
-      f ∙ (λ j. judged (same-names e k p y w z refl (no-register e proper) j && permits k (holderIn marks) p (eqb (d-is j) (n-is j))))
-      ∙ (λ j. judged (same e (next j) && permits k (holderIn marks) p (theory.isDry m o)))
-      ∙ (λ j. judged (same e (nextOf m o (sym z j)) && permits (sym z j) (holderIn marks) p (theory.isDry m o)))
+  tested k y w z next right names f =
+      f ∙ (λ j. judged (λ c. met c j) (conditions k)) ∙ (λ j. judged (metOf m o (next j) e) (conditions k)) ∙ (λ j. judged (metOf m o (nextOf m o (sym z j)) e) (conditions (sym z j)))
+    where
+      met : (c : Condition) → metIn marks p right c ≡ metOf m o (event k p y w) e c
+      met AnotherKind = sym (ap not (eq-eqb (e .kind) k z))
+      met NothingWaits = λ j. eqb (d-is j) (n-is j)
+      met LockHeld = refl
+      met NotEmpty = λ j. not (eqb (d-is j) (n-is j))
+      met NotRight = ap not (names ∙ same-names e k p y w z refl (no-register e proper))
 
   -- a step of this kind names no location and no value
-  bare : (k : ℕ) → e .kind ≡ k → Bare e → event k p 0 0 ≡ nextOf m o k → r ≡ judged (allows k marks p) → r ≡ judged (nextAllowed m o e)
-  bare k z b next f = tested k 0 0 z next (f ∙ sym (λ j. judged ((eqb (b .location j) 0 && eqb (b .value j) 0) && allows k marks p)))
+  bare : (k : ℕ) → e .kind ≡ k → Bare e → event k p 0 0 ≡ nextOf m o k → r ≡ attempted k marks p true → r ≡ attemptedOf m o (nextOf m o (e .kind)) e
+  bare k z b next = tested k 0 0 z next true (sym (λ j. eqb (b .location j) 0 && eqb (b .value j) 0))
 
   -- what is stored
   stored-as : (n full : State) → n ≡ cond (taken r) full m → full ≡ carriedOut m o e → n ≡ cond (taken r) (carriedOut m o e) m
@@ -76,11 +79,11 @@ module _ (cells locations values marks : List ℕ) (i e : Record) (r : Attempt) 
 
   in-cells : (a : Attempt) (cells' full : List ℕ) → cells' ≡ cond (taken a) full cells → stateIn cells' locations values marks ≡ cond (taken a) (stateIn full locations values marks) m
   in-cells Taken cells' full f = ap (λ (l : List ℕ). stateIn l locations values marks) f
-  in-cells (Turned why) cells' full f = ap (λ (l : List ℕ). stateIn l locations values marks) f
+  in-cells (Turned c) cells' full f = ap (λ (l : List ℕ). stateIn l locations values marks) f
 
   in-marks : (a : Attempt) (marks' full : List ℕ) → marks' ≡ cond (taken a) full marks → stateIn cells locations values marks' ≡ cond (taken a) (stateIn cells locations values full) m
   in-marks Taken marks' full f = ap (λ (l : List ℕ). stateIn cells locations values l) f
-  in-marks (Turned why) marks' full f = ap (λ (l : List ℕ). stateIn cells locations values l) f
+  in-marks (Turned c) marks' full f = ap (λ (l : List ℕ). stateIn cells locations values l) f
 
   module _ (reg : i .register < 4) where
     has : Own o
@@ -92,8 +95,8 @@ module _ (cells locations values marks : List ℕ) (i e : Record) (r : Attempt) 
         let y = i .location in
         as-own _
         (record {
-          says = tested 1 y (newest (waitingFrom locations values (getD (issuedIn marks) p 0) (getD (drainedIn marks) p 0) p) y (getD (memoryIn cells) y 0)) z refl
-              (t .says ∙ (λ j. judged (names e y (newest (waitingFrom locations values (n-is j) (d-is j) p) y (sym (rows.memory-is cells y l) j)) && allows 1 marks p)));
+          says = tested 1 y (newest (waitingFrom locations values (getD (issuedIn marks) p 0) (getD (drainedIn marks) p 0) p) y (getD (memoryIn cells) y 0)) z refl _
+              (λ j. names e y (newest (waitingFrom locations values (n-is j) (d-is j) p) y (sym (rows.memory-is cells y l) j))) (t .says);
           after = stored-as _ _ (in-cells r cells' _ (t .cellsAfter)) (stored.received-is cells locations values marks o has (e .value) ∙ rw z);
         })
 
@@ -104,19 +107,18 @@ module _ (cells locations values marks : List ℕ) (i e : Record) (r : Attempt) 
         let w = actsOf (i .kind) .issues (i .value) (getD (keptIn cells) p 0) (getD (registersIn cells) c 0) in
         as-own _
         (record {
-          says = tested 2 (i .location) w z refl
-              (t .says
-              ∙ (λ j. judged (names e (i .location) (actsOf (i .kind) .issues (i .value) (sym (rows.kept-is cells p h) j) (sym (rows.register-is cells c (stored.cell cells locations values marks o has)) j))))
-              ∙ ap judged (and-yes (names e (i .location) w)));
+          says = tested 2 (i .location) w z refl _
+              (λ j. names e (i .location) (actsOf (i .kind) .issues (i .value) (sym (rows.kept-is cells p h) j) (sym (rows.register-is cells c (stored.cell cells locations values marks o has)) j)))
+              (t .says);
           after = stored-as _ _ (rw (t .cellsAfter, t .locationsAfter, t .valuesAfter, t .marksAfter) (go r _ _ _ _)) (stored.wrote-is cells locations values marks o has e ∙ rw z);
         })
       where
         go : (a : Attempt) (cs ls vs ks : List ℕ) → stateIn (cond (taken a) cs cells) (cond (taken a) ls locations) (cond (taken a) vs values) (cond (taken a) ks marks) ≡ cond (taken a) (stateIn cs ls vs ks) m
         go Taken cs ls vs ks = refl
-        go (Turned why) cs ls vs ks = refl
+        go (Turned c) cs ls vs ks = refl
 
     pub local-next : e .kind ≡ 7 → Bare e → (cells' : List ℕ) → Assigns cells i e r cells' → TakesNext m i e r (stateIn cells' locations values marks)
-    unfolding nextIn carriedOut stateIn
+    unfolding nextIn carriedOut stateIn judged conditions
     local-next z b cells' t =
         as-own _
         (record {
@@ -125,13 +127,13 @@ module _ (cells locations values marks : List ℕ) (i e : Record) (r : Attempt) 
               ∙ sym (ap (λ (a : Attempt). cond (taken a) (carriedOut m o e) m) (t .says));
         })
 
-  pub fence-next : e .kind ≡ 4 → Bare e → r ≡ judged (allows 4 marks p) → TakesNext m i e r m
+  pub fence-next : e .kind ≡ 4 → Bare e → r ≡ attempted 4 marks p true → TakesNext m i e r m
   unfolding nextIn carriedOut stateIn
   fence-next z b t = as-own _ (record { says = bare 4 z b refl t; after = stored-as m m (go r) (rw z) })
     where
       go : (a : Attempt) → m ≡ cond (taken a) m m
       go Taken = refl
-      go (Turned why) = refl
+      go (Turned c) = refl
 
   module _ (l : 0 < length marks) (marks' : List ℕ) where
     -- the holder afterwards is `holder`

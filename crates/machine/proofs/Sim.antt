@@ -1,7 +1,7 @@
 -- A step of a state is a step of the machine that it stands for.
 use mathlib.Core.Path.{_≡_, refl, sym, ap, _∙_}
-use mathlib.Core.Bool.{Bool, true, false, cond, _&&_}
-use mathlib.Core.Option.{none}
+use mathlib.Core.Bool.{Bool, true, false, cond, not}
+use mathlib.Core.Option.{Option, none}
 use mathlib.Core.List.{List, [], _∷_}
 use Prim.Native.Nat.{ℕ, _+_, _≤_, _<_}
 use native.Mathlib.Omega.{arith}
@@ -15,20 +15,23 @@ use Rattle.model.specs.Sizes.{processors}
 use Rattle.model.specs.Kinds.{tableRows}
 use Rattle.model.specs.Machine as model
 use Rattle.model.specs.Machine.{Processor, processor}
-use Rattle.model.specs.Rules.{Event, event}
-use Rattle.model.specs.Step.{move, took, turned, drainMove, nextMove, moveFor, judge, same, step}
+use Rattle.model.specs.declared.answer.Condition.{Condition}
+use Rattle.model.specs.declared.answer.Condition.the-variants.{AnotherKind, NothingWaits, LockHeld, NotEmpty, NotRight}
+use Rattle.model.specs.Rules.{Event, event, conditions}
+use Rattle.model.specs.Step.{Move, isEmpty, blocked, same, move, drainMove, nextMove, moveFor, isSo, met, judged, steppedOf, afterMove, step}
 use Rattle.model.specs.Code.{Columns, instructionAt, countIn}
-use Rattle.machine.specs.View.{todoIn, processorOf, machineOf}
+use Rattle.machine.specs.View.{todoIn, processorOf, holderOf, machineOf}
 use Rattle.machine_rules.specs.Steps.{stepsOfKind, stepKind, stepCount}
 use Rattle.machine_rules.specs.Programs.{fetched, Fetched}
-use Rattle.machine_rules.specs.Guards.{permits}
 use Rattle.machine_rules.specs.Offers.{nextIn, offeredIn}
-use Rattle.machine.specs.Arrays.{oldestOf, nextOf, offeredOf, isDry}
+use Rattle.machine.specs.Arrays.{oldestOf, nextOf, offeredOf}
+use Rattle.machine.specs.Next.{metOf, attemptedOf}
 use Rattle.machine.specs.Stores.{isLast, advancedIn, afterEvent}
 use Rattle.machine.specs.Ready.{Own, ReadyAt, Ready}
 use Rattle.machine.proofs.Todo.{stepFor, restAt, none-left, next-left, rest-left}
 use Rattle.machine.proofs.Changes.{processor-is, at-next}
-use Rattle.machine.proofs.Moves.{offer, oldest-offer, offers}
+use Rattle.machine.proofs.Locks.{blocked-is}
+use Rattle.machine.proofs.Moves.{offer, empty-is, oldest-offer, offers}
 use Rattle.machine_state.specs.State.{State}
 
 pub unlike : (e o : Event) → ¬ (e .kind ≡ o .kind) → same e o ≡ false
@@ -117,18 +120,6 @@ module _ (g : Columns) (m : State) (ready : Ready g m) (i : Record) (here : Fetc
 
   -- ---- the step
 
-  abbrev pub allowed : Event → Event → Bool
-  allowed e o = same e o && permits (o .kind) (m .holder) p (isDry m i)
-
-  pub judged : (e o : Event) → 0 < e .kind → judge e (offer g m i o) ≡ cond (allowed e o) (took (machineOf g (afterEvent m i o))) (turned 11)
-  unfolding judge
-  judged e o k = go (eqb (o .kind) 0) refl
-    where
-      go : (b : Bool) → eqb (o .kind) 0 ≡ b → judge e (cond b none (move o (permits (o .kind) (m .holder) p (isDry m i)) (machineOf g (afterEvent m i o))))
-          ≡ cond (allowed e o) (took (machineOf g (afterEvent m i o))) (turned 11)
-      go true z = rw (unlike e o (λ q. omega (arith, eqb-true (o .kind) 0 z, q)))
-      go false z = refl
-
   pub move-is : (e : Event) → e .processor ≡ p → moveFor M e ≡ offer g m i (offeredOf m i (e .kind))
   unfolding moveFor offeredIn
   move-is e q = (λ j. cond (eqb (e .kind) 3) (drainMove M (q j) (processor M (q j) .waiting)) (nextMove M (q j) (processor M (q j) .todo))) ∙ go (eqb (e .kind) 3)
@@ -137,7 +128,34 @@ module _ (g : Columns) (m : State) (ready : Ready g m) (i : Record) (here : Fetc
       go true = oldest-offer g m ready i own
       go false = next-offer
 
-  pub step-is : (e : Event) → 0 < e .kind → e .processor ≡ p
-      → step M e ≡ cond (allowed e (offeredOf m i (e .kind))) (took (machineOf g (afterEvent m i (offeredOf m i (e .kind))))) (turned 11)
-  unfolding step
-  step-is e k q = ap (judge e) (move-is e q) ∙ judged e (offeredOf m i (e .kind)) k
+  -- a step that is offered is so, if no step of kind 0 is
+  offered-so : (so : Event → Bool) (o : Event) → (o .kind ≡ 0 → so o ≡ false) → isSo so (offer g m i o) ≡ so o
+  unfolding isSo
+  offered-so so o n = go (eqb (o .kind) 0) refl
+    where
+      go : (b : Bool) → eqb (o .kind) 0 ≡ b → isSo so (cond b none (move o (machineOf g (afterEvent m i o)))) ≡ so o
+      go true z = sym (n (eqb-true (o .kind) 0 z))
+      go false z = refl
+
+  module _ (e : Event) (k : 0 < e .kind) (q : e .processor ≡ p) where
+    abbrev o : Event
+    o = offeredOf m i (e .kind)
+
+    not-none : o .kind ≡ 0 → ¬ (e .kind ≡ o .kind)
+    not-none z w = omega arith
+
+    met-is : (c : Condition) → met M e c ≡ metOf m i o e c
+    unfolding met machineOf
+    met-is AnotherKind = ap (λ (u : Option Move). not (isSo (λ (u : Event). eqb (e .kind) (u .kind)) u)) (move-is e q) ∙ ap not (offered-so (λ u. eqb (e .kind) (u .kind)) o (λ z. ne-eqb (e .kind) (o .kind) (not-none z)))
+    met-is NothingWaits = ap (λ (r : ℕ). isEmpty (processor M r .waiting)) q ∙ empty-is g m ready i own
+    met-is LockHeld = ap (blocked (holderOf (m .holder))) q ∙ blocked-is (m .holder) p
+    met-is NotEmpty = ap not (ap (λ (r : ℕ). isEmpty (processor M r .waiting)) q ∙ empty-is g m ready i own)
+    met-is NotRight = ap (λ (u : Option Move). not (isSo (same e) u)) (move-is e q) ∙ ap not (offered-so (same e) o (λ z. unlike e o (not-none z)))
+
+    pub step-is : step M e ≡ steppedOf (attemptedOf m i o e) (afterMove M (offer g m i o))
+    unfolding step
+    step-is = λ j. steppedOf (judged (λ c. met-is c j) (conditions (e .kind))) (afterMove M (move-is e q j))
+
+  pub offered-after : (o : Event) → 0 < o .kind → afterMove M (offer g m i o) ≡ machineOf g (afterEvent m i o)
+  unfolding afterMove
+  offered-after o k = rw (ne-eqb (o .kind) 0 (λ z. omega arith))

@@ -13,7 +13,6 @@ use Rattle.model.specs.Sizes.{processors, instructionsEach}
 use Rattle.model.specs.Left.{writes}
 use Rattle.model.specs.Rules.{Event, event}
 use Rattle.model.specs.Code.{Columns, countIn}
-use Rattle.model.proofs.Bools.{and-left, same-true}
 use Rattle.machine.specs.View.{todoIn}
 use Rattle.machine_rules.specs.Steps.{stepsOfKind, stepKind}
 use Rattle.machine.specs.Arrays.{oldestOf, nextOf, offeredOf}
@@ -22,7 +21,7 @@ use Rattle.machine.specs.Stores.{afterDrain, carriedOut, afterEvent}
 use Rattle.machine.specs.Ready.{ReadyAt, Ready}
 use Rattle.machine_rules.specs.Programs.{Fetched}
 use Rattle.machine.proofs.Todo.{stepFor, by-kind}
-use Rattle.machine.proofs.Sim.{is-instruction, is-none, rest, todo-next, allowed}
+use Rattle.machine.proofs.Sim.{is-instruction, is-none, rest, todo-next}
 use Rattle.machine.proofs.Lengths.{drained-long}
 use Rattle.machine.proofs.Keeps.{carries, ready-advanced}
 use Rattle.machine_state.specs.State.{State}
@@ -59,6 +58,11 @@ module _ (g : Columns) (m : State) (ready : Ready g m) (i : Record) (here : Fetc
       go true e c y v w = (sym (eqb-true k 1 e), refl)
       go false e true y v w = (sym (eqb-true k 2 y), refl)
       go false e false y v w = (refl, refl)
+
+  -- one that uses neither location nor value
+  pub bare-next : (k : ℕ) → ¬ (k ≡ 1) → ¬ (k ≡ 2) → nextOf m i k ≡ event k p 0 0
+  unfolding nextIn
+  bare-next k r w = rw (ne-eqb k 1 r, ne-eqb k 2 w)
 
   -- ---- the drain
 
@@ -140,6 +144,3 @@ module _ (g : Columns) (m : State) (ready : Ready g m) (i : Record) (here : Fetc
       go : (b : Bool) → 0 < cond b (oldestOf m i) (nextOf m i (stepKind (i .kind) f)) .kind → Taken (cond b (oldestOf m i) (nextOf m i (stepKind (i .kind) f)))
       go true z = drain-taken z
       go false z = next-taken (inside (rw (next-fields (stepKind (i .kind) f) .0) at z))
-
-  pub taken : (e : Event) → 0 < e .kind → allowed g m ready i here h e (offeredOf m i (e .kind)) ≡ true → Taken (offeredOf m i (e .kind))
-  taken e z y = offered-taken (e .kind) (subst (λ (o : Event). 0 < o .kind) (same-true e (offeredOf m i (e .kind)) (and-left _ _ y)) z)

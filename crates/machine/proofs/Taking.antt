@@ -1,43 +1,49 @@
 -- The code's step, from its parts to its promise.
 use mathlib.Core.Path.{_≡_, refl, sym, ap, _∙_, subst}
-use mathlib.Core.Bool.{Bool, true, false, cond, _&&_}
+use mathlib.Core.Bool.{Bool, true, false, cond, not}
 use mathlib.Core.List.{List}
 use Prim.Native.Nat.{ℕ, _≤_, _<_}
 use native.Mathlib.Omega.{arith}
 use lib.ListN.{getD, set}
 use lib.Dec.{eqb}
-use borrow.Author.Tests.{ne-eqb}
+use borrow.Author.Tests.{eqb-true, ne-eqb, not-false}
 use Rattle.model.specs.declared.answer.Attempt.{Attempt}
 use Rattle.model.specs.declared.answer.Attempt.the-variants.{Taken, Turned}
-use Rattle.model.specs.declared.answer.Refusal.{Refusal}
-use Rattle.model.specs.declared.answer.Refusal.the-variants.{NotAllowed}
+use Rattle.model.specs.declared.answer.Condition.{Condition}
+use Rattle.model.specs.declared.answer.Condition.the-variants.{AnotherKind, NothingWaits, LockHeld, NotRight}
 use Rattle.model.specs.declared.record.Record.{Record}
 use Rattle.model.specs.Sizes.{processors, instructionsEach, phases}
 use Rattle.model.specs.Fields.{Proper}
 use Rattle.model.specs.Kinds.{stepUses}
-use Rattle.model.specs.Rules.{Event, event}
-use Rattle.model.specs.Code.{Columns, placeAt, instructionAt, countIn, taken, judged}
-use Rattle.model.specs.Step.{same}
-use Rattle.model.proofs.Bools.{false-true, and-left, same-true}
-use Rattle.machine_rules.specs.Guards.{permits}
+use Rattle.model.specs.Lists.{All}
+use Rattle.model.specs.Rules.{Event, event, conditions}
+use Rattle.model.specs.Code.{Columns, placeAt, instructionAt, countIn, taken}
+use Rattle.model.specs.Step.{same, judged, took, steppedOf, afterMove, step}
+use Rattle.model.proofs.Bools.{false-true, same-true}
+use Rattle.model.proofs.Conditions.{unmet}
+use Rattle.model.proofs.Clears.{as-bare}
+use Rattle.model.proofs.Rows.{below as number-by-number}
+use Rattle.machine_rules.specs.Guards.{blockedIn}
 use Rattle.machine_rules.specs.Steps.{stepsOfKind, stepKind}
 use Rattle.machine_rules.specs.Programs.{fetched, Fetched}
 use Rattle.machine_rules.specs.Offers.{oldestIn, offeredIn}
 use Rattle.machine_rules.proofs.Table.{rows, in-rows}
 use Rattle.machine_state.specs.State.{State}
-use Rattle.machine_state.specs.Packed.{memoryAt, standsAt, phaseAt, issuedAt, drainedAt, holderIn, countsIn, stateIn, columnsIn}
+use Rattle.machine_state.specs.Packed.{memoryAt, standsAt, phaseAt, issuedAt, drainedAt, countsIn, stateIn, columnsIn}
 use Rattle.machine_store.specs.Stores.{oneMoreDrained, advanced, Onward}
-use Rattle.machine_take.specs.Takes.{names, drainAllowed, MayDrain, Drains}
+use Rattle.machine_take.specs.Takes.{names, MayDrain, Drains}
 use Rattle.machine.specs.Arrays.{isDry, oldestOf, nextOf, offeredOf}
 use Rattle.machine.specs.Stores.{afterDrain, advancedIn, carriedOut, afterEvent}
-use Rattle.machine.specs.Next.{MayTake, nextAllowed, TakesNext}
+use Rattle.machine.specs.View.{machineOf}
+use Rattle.machine.specs.Next.{MayTake, metOf, attemptedOf, TakesNext}
 use Rattle.machine.specs.Ready.{Ready, Steps}
-use Rattle.machine.proofs.Propers.{some-kind, low-processor, low-location, no-register}
-use Rattle.machine.proofs.Sim.{unlike as unlike-kind, is-none, allowed, step-is}
+use Rattle.model.proofs.Events.{some-kind, low-kind, low-processor, low-location, no-register}
+use Rattle.machine.proofs.Moves.{offer}
+use Rattle.machine.proofs.Sim.{is-none, step-is, offered-after}
 use Rattle.machine.proofs.Stored as stored
 use Rattle.machine.proofs.Standing as standing
 use Rattle.machine.proofs.Standing.{Stays, stays}
-use Rattle.machine.proofs.Taken.{next-fields, taken as still}
+use Rattle.machine.proofs.Taken.{next-fields, bare-next, offered-taken}
 use Rattle.machine.proofs.Nexts.{same-names}
 
 -- ---- where the processor of e stands at the instruction i
@@ -50,60 +56,98 @@ module _ (g : Columns) (m : State) (ready : Ready g m) (e : Event) (proper : Pro
   abbrev o : Event
   o = offeredOf m i (e .kind)
 
-  abbrev test : Bool
-  test = allowed g m ready i here h e o
+  -- ---- what is taken is the step that is offered
 
-  settled : (r : Attempt) → r ≡ judged test → (n : State) → n ≡ cond (taken r) (afterEvent m i e) m → Steps g m e r n
-  settled r z n f = subst (λ (r : Attempt). Steps g m e r n) (sym z) (go test refl (f ∙ ap (λ (r : Attempt). cond (taken r) (afterEvent m i e) m) z))
-    where
-      go : (b : Bool) → b ≡ test → n ≡ cond (taken (judged b)) (afterEvent m i e) m → Steps g m e (judged b) n
-      go true z f =
-          let is : e ≡ o = same-true e o (and-left _ _ (sym z)) in
-          let after : n ≡ afterEvent m i o = f ∙ ap (afterEvent m i) is in
-          record {
-            says = step-is g m ready i here h e (some-kind e proper) whose ∙ rw (sym z, after);
-            ready = rw after (still g m ready i here h e (some-kind e proper) (sym z));
-            kept = λ w. false-true (sym w);
-          }
-      go false z f = record { says = step-is g m ready i here h e (some-kind e proper) whose ∙ rw (sym z); ready = rw f ready; kept = λ w. f }
+  -- a read, a write, a drain
+  by-names : not (same e o) ≡ false → e ≡ o
+  by-names z = same-true e o (not-false (same e o) z)
 
-  unlike : ¬ (e ≡ o) → false ≡ test
-  unlike n = go (same e o) refl
-    where
-      go : (b : Bool) → same e o ≡ b → false ≡ b && permits (o .kind) (m .holder) q (isDry m i)
-      go true z = absurd (n (same-true e o z))
-      go false z = refl
+  -- a fence, a lock, an unlock, a local step
+  by-kind : 3 < e .kind → not (eqb (e .kind) (o .kind)) ≡ false → e ≡ o
+  unfolding offeredIn
+  by-kind l z =
+      let kind : ℕ = stepKind (i .kind) (getD (m .phase) q 0) in
+      let next : o ≡ nextOf m i kind = rw (ne-eqb (e .kind) 3 (λ w. omega arith)) refl in
+      let same : e .kind ≡ kind = eqb-true (e .kind) (o .kind) (not-false (eqb (e .kind) (o .kind)) z) ∙ ap (λ (r : Event). r .kind) next ∙ next-fields g m ready i here h kind .0 in
+      as-bare e proper l ∙ (λ j. event (same j) (whose j) 0 0) ∙ sym (bare-next g m ready i here h kind (λ w. omega arith) (λ w. omega arith)) ∙ sym next
 
-  turned : ¬ (e ≡ o) → Steps g m e (Turned NotAllowed) m
-  turned n = settled (Turned NotAllowed) (ap judged (unlike n)) m refl
+  is-offered : attemptedOf m i o e ≡ Taken → e ≡ o
+  unfolding conditions
+  is-offered t =
+      number-by-number 8 (λ k. e .kind ≡ k → All (λ c. metOf m i o e c ≡ false) (conditions k) → e ≡ o) (
+        λ z u. absurd (omega (arith, some-kind e proper)),
+        (
+          λ z u. by-names (u .1 .1 .0),
+          (
+            λ z u. by-names (u .1 .0),
+            (
+              λ z u. by-names (u .1 .1 .0),
+              (
+                λ z u. by-kind (omega arith) (u .0),
+                (
+                  λ z u. by-kind (omega arith) (u .0),
+                  (
+                    λ z u. by-kind (omega arith) (u .0),
+                    (
+                      λ z u. by-kind (omega arith) (u .0),
+                      tt,
+                    ),
+                  ),
+                ),
+              ),
+            ),
+          ),
+        ),
+      )
+      (e .kind) (low-kind e proper) refl (unmet (metOf m i o e) (conditions (e .kind)) t)
+
+  -- ---- so an attempt that comes to what the conditions say is the machine's step
+
+  judged-step : (r : Attempt) → r ≡ attemptedOf m i o e → step (machineOf g m) e ≡ steppedOf r (afterMove (machineOf g m) (offer g m i o))
+  judged-step r z = step-is g m ready i here h e (some-kind e proper) whose ∙ ap (λ (a : Attempt). steppedOf a (afterMove (machineOf g m) (offer g m i o))) (sym z)
+
+  settled : (r : Attempt) → r ≡ attemptedOf m i o e → (n : State) → n ≡ cond (taken r) (afterEvent m i e) m → Steps g m e r n
+  settled Taken z n f =
+      let is : e ≡ o = is-offered (sym z) in
+      let some : 0 < o .kind = subst (λ (u : Event). 0 < u .kind) is (some-kind e proper) in
+      let after : n ≡ afterEvent m i o = f ∙ ap (afterEvent m i) is in
+      record {
+        says = judged-step Taken z ∙ ap took (offered-after g m ready i here h o some ∙ ap (machineOf g) (sym after));
+        ready = rw after (offered-taken g m ready i here h (e .kind) some);
+        kept = λ w. false-true (sym w);
+      }
+  settled (Turned c) z n f = record { says = judged-step (Turned c) z; ready = rw f ready; kept = λ w. f }
 
   -- ---- a drain
+
+  -- the write after d of n drained ones is e's
+  abbrev drained-as : ℕ → ℕ → ℕ → Attempt
+  drained-as p d n =
+      cond (eqb d n) (Turned NothingWaits)
+      (cond (blockedIn (m .holder) p) (Turned LockHeld)
+      (cond (not (names e (getD (m .locations) (placeAt p d) 0) (getD (m .values) (placeAt p d) 0))) (Turned NotRight) Taken))
 
   module _ (d : e .kind ≡ 3) where
     is-oldest : oldestOf m i ≡ o
     unfolding offeredIn
     is-oldest = rw d refl
 
-    drain-test : drainAllowed (m .locations) (m .values) (getD (m .issued) (e .processor) 0) (getD (m .drained) (e .processor) 0) (m .holder) e ≡ test
-    unfolding oldestIn
-    drain-test =
-        (λ j. allowed-of (whose j)) ∙ go (isDry m i) (getD (m .locations) (placeAt q (getD (m .drained) q 0)) 0) (getD (m .values) (placeAt q (getD (m .drained) q 0)) 0)
-        ∙ (λ j. same e (is-oldest j) && permits (is-oldest j .kind) (m .holder) q (isDry m i))
+    drain-judged : drained-as (e .processor) (getD (m .drained) (e .processor) 0) (getD (m .issued) (e .processor) 0) ≡ attemptedOf m i o e
+    unfolding oldestIn judged conditions
+    drain-judged =
+        (λ j. drained-as (whose j) (getD (m .drained) (whose j) 0) (getD (m .issued) (whose j) 0))
+        ∙ go (isDry m i) (getD (m .locations) (placeAt q (getD (m .drained) q 0)) 0) (getD (m .values) (placeAt q (getD (m .drained) q 0)) 0)
+        ∙ (λ j. judged (metOf m i (is-oldest j) e) (conditions (sym d j)))
       where
-        allowed-of : ℕ → Bool
-        allowed-of p =
-            cond (eqb (getD (m .drained) p 0) (getD (m .issued) p 0)) false
-            (names e (getD (m .locations) (placeAt p (getD (m .drained) p 0)) 0) (getD (m .values) (placeAt p (getD (m .drained) p 0)) 0) && permits 3 (m .holder) p false)
+        go : (b : Bool) (x v : ℕ) → cond b (Turned NothingWaits) (cond (blockedIn (m .holder) q) (Turned LockHeld) (cond (not (names e x v)) (Turned NotRight) Taken))
+            ≡ cond b (Turned NothingWaits) (cond (blockedIn (m .holder) q) (Turned LockHeld) (cond (not (same e (cond b (event 0 q 0 0) (event 3 q x v)))) (Turned NotRight) Taken))
+        go true x v = refl
+        go false x v = λ j. cond (blockedIn (m .holder) q) (Turned LockHeld) (cond (not (same-names e 3 q x v d whose (no-register e proper) j)) (Turned NotRight) Taken)
 
-        go : (b : Bool) (x v : ℕ) → cond b false (names e x v && permits 3 (m .holder) q false)
-            ≡ same e (cond b (event 0 q 0 0) (event 3 q x v)) && permits (cond b (event 0 q 0 0) (event 3 q x v) .kind) (m .holder) q b
-        go true x v = sym (λ j. unlike-kind e (event 0 q 0 0) (λ z. omega (arith, sym d ∙ z)) j && true)
-        go false x v = λ j. same-names e 3 q x v d whose (no-register e proper) j && permits 3 (m .holder) q false
-
-    drained-at : (r : Attempt) → r ≡ judged (drainAllowed (m .locations) (m .values) (getD (m .issued) (e .processor) 0) (getD (m .drained) (e .processor) 0) (m .holder) e)
+    drained-at : (r : Attempt) → r ≡ drained-as (e .processor) (getD (m .drained) (e .processor) 0) (getD (m .issued) (e .processor) 0)
         → (n : State) → n ≡ cond (taken r) (afterDrain m e) m → Steps g m e r n
     unfolding afterEvent
-    drained-at r z n f = settled r (z ∙ ap judged drain-test) n (rw d f)
+    drained-at r z n f = settled r (z ∙ drain-judged) n (rw d f)
 
   -- ---- a program step
 
@@ -112,10 +156,18 @@ module _ (g : Columns) (m : State) (ready : Ready g m) (e : Event) (proper : Pro
     unfolding offeredIn
     next-kind = rw (ne-eqb (e .kind) 3 n) (next-fields g m ready i here h (stepKind (i .kind) (getD (m .phase) q 0)) .0)
 
-    other : ¬ (e .kind ≡ stepKind (i .kind) (getD (m .phase) q 0)) → Steps g m e (Turned NotAllowed) m
-    other k = turned (λ is. k (ap (λ (r : Record). r .kind) is ∙ next-kind))
+    -- its rule tests first that its kind is the next one
+    kind-first : metOf m i o e AnotherKind ≡ true → Turned AnotherKind ≡ attemptedOf m i o e
+    unfolding judged conditions
+    kind-first t =
+        number-by-number 8 (λ k. ¬ (k ≡ 3) → 0 < k → Turned AnotherKind ≡ judged (metOf m i o e) (conditions k))
+        (λ n l. absurd (omega arith), (λ n l. rw t, (λ n l. rw t, (λ n l. absurd (n refl), (λ n l. rw t, (λ n l. rw t, (λ n l. rw t, (λ n l. rw t, tt))))))))
+        (e .kind) (low-kind e proper) n (some-kind e proper)
 
-    past : countIn g q ≤ getD (m .at) q 0 → Steps g m e (Turned NotAllowed) m
+    other : ¬ (e .kind ≡ stepKind (i .kind) (getD (m .phase) q 0)) → Steps g m e (Turned AnotherKind) m
+    other k = settled (Turned AnotherKind) (kind-first (ap not (ne-eqb (e .kind) (o .kind) (λ z. k (z ∙ next-kind))))) m refl
+
+    past : countIn g q ≤ getD (m .at) q 0 → Steps g m e (Turned AnotherKind) m
     unfolding stepKind stepsOfKind
     past l =
         let none : i .kind ≡ 0 = ap (λ (r : Record). r .kind) (is-none g m ready i here h l) in
@@ -128,14 +180,9 @@ module _ (g : Columns) (m : State) (ready : Ready g m) (e : Event) (proper : Pro
       unfolding offeredIn
       is-next = ap (nextOf m i) k ∙ rw (ne-eqb (e .kind) 3 n) refl
 
-      next-test : nextAllowed m i e ≡ test
-      next-test =
-          (λ j. same e (nextOf m i (e .kind)) && permits (sym (next-fields g m ready i here h (e .kind) .0) j) (m .holder) q (isDry m i))
-          ∙ (λ j. same e (is-next j) && permits (is-next j .kind) (m .holder) q (isDry m i))
-
-      taken-at : (r : Attempt) → r ≡ judged (nextAllowed m i e) → (s : State) → s ≡ cond (taken r) (advancedIn (carriedOut m i e) i) m → Steps g m e r s
+      taken-at : (r : Attempt) → r ≡ attemptedOf m i (nextOf m i (e .kind)) e → (s : State) → s ≡ cond (taken r) (advancedIn (carriedOut m i e) i) m → Steps g m e r s
       unfolding afterEvent
-      taken-at r z s f = settled r (z ∙ ap judged next-test) s (rw (ne-eqb (e .kind) 3 n) f)
+      taken-at r z s f = settled r (z ∙ ap (λ (u : Event). attemptedOf m i u e) is-next) s (rw (ne-eqb (e .kind) 3 n) f)
 
 -- ---- the code's branches
 
@@ -171,19 +218,19 @@ module _ (codes constants cells locations values marks : List ℕ) (ready : Read
   can-drain = record { log = standing.log _ _ _ _ _ _ ready p h; location = low-location e proper }
 
   pub drains-it : e .kind ≡ 3 → (r : Attempt) (cells' marks' : List ℕ) → Drains cells locations values marks e r cells' marks' → Steps g m e r (stateIn cells' locations values marks')
-  unfolding stateIn
+  unfolding stateIn judged conditions
   drains-it k r cells' marks' t =
-      drained-at g m ready e proper _ (standing.any-own g m ready p h) (standing.any-low g m ready p h) whose k r (t .says ∙ (λ j. judged (drainAllowed locations values (n-is j) (d-is j) (holderIn marks) e))) _
+      drained-at g m ready e proper _ (standing.any-own g m ready p h) (standing.any-low g m ready p h) whose k r (t .says ∙ (λ j. drained-as g m ready e proper _ (standing.any-own g m ready p h) (standing.any-low g m ready p h) whose p (d-is j) (n-is j))) _
       (go r (t .cellsAfter) (t .marksAfter))
     where
       go : (a : Attempt) → cells' ≡ cond (taken a) (set cells (memoryAt (e .location)) (e .value)) cells → marks' ≡ cond (taken a) (oneMoreDrained marks p) marks
           → stateIn cells' locations values marks' ≡ cond (taken a) (afterDrain m e) m
       go Taken ec ek = (λ j. stateIn (ec j) locations values (ek j)) ∙ stored.drained-is cells locations values marks e h (low-location e proper)
-      go (Turned why) ec ek = λ j. stateIn (ec j) locations values (ek j)
+      go (Turned c) ec ek = λ j. stateIn (ec j) locations values (ek j)
 
   -- ---- a program step
 
-  pub at-the-end : ¬ (e .kind ≡ 3) → getD (countsIn codes) p 0 ≤ getD marks (standsAt p) 0 → Steps g m e (Turned NotAllowed) m
+  pub at-the-end : ¬ (e .kind ≡ 3) → getD (countsIn codes) p 0 ≤ getD marks (standsAt p) 0 → Steps g m e (Turned AnotherKind) m
   unfolding columnsIn
   at-the-end n l =
       let a = a-is in
@@ -214,7 +261,7 @@ module _ (codes constants cells locations values marks : List ℕ) (ready : Read
       kind-is : stepKind (i .kind) (getD marks (phaseAt p) 0) ≡ stepKind (i .kind) (getD (m .phase) (i .processor) 0)
       kind-is = standing.kind-is _ _ _ _ _ _ ready p h some i read
 
-      pub another : ¬ (e .kind ≡ 3) → ¬ (e .kind ≡ stepKind (i .kind) (getD marks (phaseAt p) 0)) → Steps g m e (Turned NotAllowed) m
+      pub another : ¬ (e .kind ≡ 3) → ¬ (e .kind ≡ stepKind (i .kind) (getD marks (phaseAt p) 0)) → Steps g m e (Turned AnotherKind) m
       another n z = other g m ready e proper i here own-low (sym its) n (λ w. z (w ∙ sym kind-is))
 
       module _ (n : ¬ (e .kind ≡ 3)) (next : e .kind ≡ stepKind (i .kind) (getD marks (phaseAt p) 0)) where
@@ -236,7 +283,7 @@ module _ (codes constants cells locations values marks : List ℕ) (ready : Read
             where
               go : (a : Attempt) → Stays m (cond (taken a) (carriedOut m i e) m)
               go Taken = stays m i e
-              go (Turned why) = (refl, refl)
+              go (Turned c) = (refl, refl)
 
           after : (a : Attempt) → r ≡ a → stateIn cells' locations' values' marks' ≡ cond (taken a) (carriedOut m i e) m
           after a y = t .after ∙ ap (λ (a : Attempt). cond (taken a) (carriedOut m i e) m) y
@@ -247,5 +294,5 @@ module _ (codes constants cells locations values marks : List ℕ) (ready : Read
               (ap (stateIn cells' locations' values') (f ∙ ap (advanced marks' (i .kind)) (sym its)) ∙ stored.advanced-is cells' locations' values' marks' i own-low
               ∙ ap (λ (s : State). advancedIn s i) (after Taken y))
 
-          pub turns-it : (why : Refusal) → r ≡ Turned why → Steps g m e (Turned why) (stateIn cells' locations' values' marks')
-          turns-it why y = taken-at g m ready e proper i here own-low (sym its) n (next ∙ kind-is) (Turned why) (sym y ∙ t .says) _ (after (Turned why) y)
+          pub turns-it : (c : Condition) → r ≡ Turned c → Steps g m e (Turned c) (stateIn cells' locations' values' marks')
+          turns-it c y = taken-at g m ready e proper i here own-low (sym its) n (next ∙ kind-is) (Turned c) (sym y ∙ t .says) _ (after (Turned c) y)

@@ -1,19 +1,22 @@
 -- What taking the next program step asks and promises. i is the instruction that the processor stands at, e the step.
 use mathlib.Core.Path.{_≡_}
-use mathlib.Core.Bool.{Bool, cond, _&&_}
+use mathlib.Core.Bool.{Bool, cond, not}
 use mathlib.Core.List.{List}
 use Prim.Native.Nat.{ℕ, _<_}
 use lib.ListN.{length}
+use lib.Dec.{eqb}
 use Rattle.model.specs.declared.answer.Attempt.{Attempt}
+use Rattle.model.specs.declared.answer.Condition.{Condition}
+use Rattle.model.specs.declared.answer.Condition.the-variants.{AnotherKind, NothingWaits, LockHeld, NotEmpty, NotRight}
 use Rattle.model.specs.declared.record.Record.{Record}
 use Rattle.model.specs.Sizes as sizes
 use Rattle.model.specs.Sizes.{registersEach}
 use Rattle.model.specs.Fields.{Proper}
 use Rattle.model.specs.Kinds.{stepUses}
-use Rattle.model.specs.Rules.{Event}
-use Rattle.model.specs.Step.{same}
-use Rattle.model.specs.Code.{taken, judged}
-use Rattle.machine_rules.specs.Guards.{permits}
+use Rattle.model.specs.Rules.{Event, conditions}
+use Rattle.model.specs.Step.{same, judged}
+use Rattle.model.specs.Code.{taken}
+use Rattle.machine_rules.specs.Guards.{blockedIn}
 use Rattle.machine_state.specs.State.{State}
 use Rattle.machine_store.specs.Stores.{Issuable}
 use Rattle.machine_take.specs.Takes.{LogOf}
@@ -30,11 +33,19 @@ pub record MayTake (locations values marks : List ℕ) (i : Record) (e : Event) 
   pub location : i .location < sizes.locations
   pub write : e .kind ≡ 2 → Issuable marks (e .processor)
 
--- it is the step that i comes to, and lock and buffer allow it
-abbrev pub nextAllowed : State → Record → Event → Bool
-nextAllowed m i e = same e (nextOf m i (e .kind)) && permits (e .kind) (m .holder) (i .processor) (isDry m i)
+-- whether a condition is met for the step e, where its processor can come to the step o
+abbrev pub metOf : State → Record → Event → Event → Condition → Bool
+metOf m i o e AnotherKind = not (eqb (e .kind) (o .kind))
+metOf m i o e NothingWaits = isDry m i
+metOf m i o e LockHeld = blockedIn (m .holder) (i .processor)
+metOf m i o e NotEmpty = not (isDry m i)
+metOf m i o e NotRight = not (same e o)
+
+-- what the attempt of e comes to
+abbrev pub attemptedOf : State → Record → Event → Event → Attempt
+attemptedOf m i o e = judged (metOf m i o e) (conditions (e .kind))
 
 -- from the state m to the state n, before the program goes on
 pub record TakesNext (m : State) (i : Record) (e : Event) (r : Attempt) (n : State) : Type 0 where
-  pub says : r ≡ judged (nextAllowed m i e)
+  pub says : r ≡ attemptedOf m i (nextOf m i (e .kind)) e
   pub after : n ≡ cond (taken r) (carriedOut m i e) m

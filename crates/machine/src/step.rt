@@ -9,7 +9,7 @@ use machine_rules::program::DRAIN;
 use machine_state::program as programs;
 use machine_state::state::Machine;
 use model::answer::Attempt;
-use model::answer::Refusal;
+use model::answer::Condition;
 use model::record::Record;
 use model::table::Program;
 
@@ -35,11 +35,11 @@ pub fn step<'a>(
     let p = e.processor as usize;
     let a = marks[Machine::AT + p];
     if programs::count(codes, p) <= a {
-        return Attempt::Turned(Refusal::NotAllowed);
+        return Attempt::Turned(Condition::AnotherKind);
     }
     let i = programs::instruction(codes, constants, p, a);
     if e.kind != program::step_kind(i.kind, marks[Machine::PHASE + p]) {
-        return Attempt::Turned(Refusal::NotAllowed);
+        return Attempt::Turned(Condition::AnotherKind);
     }
     match next::take_next(cells, locations, values, marks, i, e) {
         Attempt::Taken => {

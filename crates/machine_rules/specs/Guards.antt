@@ -1,8 +1,6 @@
--- What the rules ask of the lock and of the own buffer.
-use mathlib.Core.Bool.{Bool, true, _&&_, _||_}
-use mathlib.Core.List.{[], _∷_}
+-- Who holds the lock, as a number.
+use mathlib.Core.Bool.{Bool, not, _&&_}
 use Prim.Native.Nat.{ℕ}
-use lib.ListN.{getD}
 use lib.Dec.{eqb}
 use Rattle.model.specs.Sizes.{processors}
 
@@ -10,20 +8,6 @@ use Rattle.model.specs.Sizes.{processors}
 abbrev pub nobody : ℕ
 nobody = processors
 
-abbrev pub notBlockedIn : ℕ → ℕ → Bool
-notBlockedIn holder p = eqb holder nobody || eqb holder p
-
--- by the kind of the step, from 0 on
-abbrev pub permits : ℕ → ℕ → ℕ → Bool → Bool
-permits kind holder p empty =
-    getD
-    (true
-    ∷ notBlockedIn holder p  -- read
-    ∷ true  -- write
-    ∷ notBlockedIn holder p  -- drain
-    ∷ empty  -- fence
-    ∷ (eqb holder nobody && empty)  -- lock
-    ∷ (eqb holder p && empty)  -- unlock
-    ∷ [])
-    kind
-    true
+-- another processor than p holds the lock
+abbrev pub blockedIn : ℕ → ℕ → Bool
+blockedIn holder p = not (eqb holder nobody) && not (eqb holder p)

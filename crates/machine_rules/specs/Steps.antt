@@ -2,17 +2,10 @@
 use mathlib.Core.List.{List, map}
 use Prim.Native.Nat.{ℕ}
 use lib.ListN.{length, getD}
-use Rattle.model.specs.Program.{ProgramStep, read, write, fence, lock, unlock, local}
+use Rattle.model.specs.Program.{ProgramStep}
+use Rattle.model.specs.Rules.{kindOf}
 use Rattle.model.specs.Kinds.{entryOf}
 use Rattle.model.specs.Code.{stepsIn}
-
-abbrev pub kindOf : ProgramStep → ℕ
-kindOf (read x to) = 1
-kindOf (write x from) = 2
-kindOf fence = 4
-kindOf lock = 5
-kindOf unlock = 6
-kindOf (local r v) = 7
 
 -- the program steps of an instruction of kind k, whatever its fields
 unfoldable pub stepsOfKind : ℕ → List ProgramStep

@@ -1,12 +1,7 @@
-// What the rules ask of the lock and of the own buffer, and what a write issues.
+// Whether the lock blocks a processor, and what a write issues.
 ghost use mathlib.Core.Path.{_≡_};
-ghost use Rattle.machine_rules.specs.Guards.{notBlockedIn, permits};
+ghost use Rattle.machine_rules.specs.Guards.{blockedIn};
 ghost use Rattle.model.specs.Code.{actsOf};
-use crate::program::DRAIN;
-use crate::program::FENCE;
-use crate::program::LOCK;
-use crate::program::READ;
-use crate::program::UNLOCK;
 use model::kind::Role;
 use model::kind::role_of;
 use model::table::Program;
@@ -14,25 +9,11 @@ use model::table::Program;
 // The holder of a free lock.
 pub const NOBODY: usize = Program::PROCESSORS;
 
-// No other processor than p holds the lock.
-fn not_blocked(holder: usize, p: usize) -> bool
-    ensures { λ r. ⌜ r ≡ notBlockedIn holder p ⌝ }
+// Another processor than p holds the lock.
+pub fn blocked(holder: usize, p: usize) -> bool
+    ensures { λ r. ⌜ r ≡ blockedIn holder p ⌝ }
 {
-    (holder == NOBODY) | (holder == p)
-}
-
-// Lock and buffer allow processor p a step of this kind. Nothing stops a write or a local step.
-pub fn permitted(kind: u8, holder: usize, p: usize, empty: bool) -> bool
-    ensures { λ r. ⌜ r ≡ permits kind holder p empty ⌝ }
-{
-    match kind {
-        READ => not_blocked(holder, p),
-        DRAIN => not_blocked(holder, p),
-        FENCE => empty,
-        LOCK => (holder == NOBODY) & empty,
-        UNLOCK => (holder == p) & empty,
-        _ => true,
-    }
+    (holder != NOBODY) & (holder != p)
 }
 
 // What the write of an instruction of this kind issues, with `register` in its register and `kept` aside.

@@ -1,4 +1,4 @@
-// When a step is allowed (document 01): the program steps of each kind, the lookup, and what lock and buffer permit.
+// When a step is allowed (document 01): the program steps of each kind, the lookup, and whether the lock blocks a processor.
 pub mod guards;
 pub mod program;
 pub mod waiting;

@@ -1,20 +1,19 @@
-// A step of each kind, attempted. e is the event, i the instruction that its processor stands at.
+// A step of each kind, attempted: the conditions of its rule are tested in order, and the first that is met turns it down. That a program step is the next one is tested before.
+// e is the event, i the instruction that its processor stands at.
 ghost use mathlib.Core.Path.{_≡_};
+ghost use mathlib.Core.Bool.{true};
 ghost use Prim.Native.Nat.{_<_};
-ghost use Rattle.model.specs.Code.{judged};
 ghost use Rattle.machine_rules.specs.Guards.{nobody};
-ghost use Rattle.machine_take.specs.Takes.{allows, MayDrain, Drains, MayRead, Reads, MayWrite, Writes, Holds, HasRegister, Assigns};
+ghost use Rattle.machine_take.specs.Takes.{emptyIn, attempted, MayDrain, Drains, MayRead, Reads, MayWrite, Writes, Holds, HasRegister, Assigns};
 use machine_rules::guards;
 use machine_rules::guards::NOBODY;
-use machine_rules::program::DRAIN;
 use machine_rules::program::FENCE;
 use machine_rules::program::LOCK;
-use machine_rules::program::READ;
 use machine_rules::program::UNLOCK;
 use machine_rules::waiting;
 use machine_state::state::Machine;
 use model::answer::Attempt;
-use model::answer::Refusal;
+use model::answer::Condition;
 use model::record::Record;
 use model::table::Cells;
 use model::table::Program;
@@ -35,18 +34,17 @@ pub fn drain<'a>(
     let n = marks[Machine::ISSUED + p];
     let d = marks[Machine::DRAINED + p];
     if d == n {
-        return Attempt::Turned(Refusal::NotAllowed);
+        return Attempt::Turned(Condition::NothingWaits);
+    }
+    if guards::blocked(marks[Machine::HOLDER], p) {
+        return Attempt::Turned(Condition::LockHeld);
     }
     let place = Program::INSTRUCTIONS * p + d;
-    // A write waits, so the buffer is not empty.
-    if (e.location == locations[place])
-        & (e.value == values[place])
-        & guards::permitted(DRAIN, marks[Machine::HOLDER], p, false)
-    {
+    if (e.location == locations[place]) & (e.value == values[place]) {
         machine_store::drain(cells, marks, p, e.location, e.value);
         return Attempt::Taken;
     }
-    Attempt::Turned(Refusal::NotAllowed)
+    Attempt::Turned(Condition::NotRight)
 }
 
 // A read of what the processor sees.
@@ -63,19 +61,19 @@ pub fn read<'a>(
         r (now (cells .exit)) ⌝ }
 {
     let p = e.processor as usize;
+    if guards::blocked(marks[Machine::HOLDER], p) {
+        return Attempt::Turned(Condition::LockHeld);
+    }
     let n = marks[Machine::ISSUED + p];
     let d = marks[Machine::DRAINED + p];
     let cell = Machine::MEMORY + (i.location as usize);
     let seen = waiting::seen(locations, values, n, d, p, i.location, cells[cell]);
-    if (e.location == i.location)
-        & (e.value == seen)
-        & guards::permitted(READ, marks[Machine::HOLDER], p, d == n)
-    {
+    if (e.location == i.location) & (e.value == seen) {
         let c = Cells::REGISTERS * p + (i.register as usize);
         machine_store::receive(cells, i.kind, p, c, e.value);
         return Attempt::Taken;
     }
-    Attempt::Turned(Refusal::NotAllowed)
+    Attempt::Turned(Condition::NotRight)
 }
 
 // A write of what the instruction issues.
@@ -100,48 +98,51 @@ pub fn write<'a>(
         machine_store::issue(locations, values, marks, p, e.location, e.value);
         return Attempt::Taken;
     }
-    Attempt::Turned(Refusal::NotAllowed)
+    Attempt::Turned(Condition::NotRight)
 }
 
-// Lock and buffer allow processor p a step of this kind.
-fn allowed(kind: u8, marks: &[usize; Machine::MARKS], p: usize) -> bool
+// Nothing of processor p waits.
+fn is_empty(marks: &[usize; Machine::MARKS], p: usize) -> bool
     requires { do ⌜ p < (← ⟦Program::PROCESSORS⟧) ⌝ }
-    ensures { λ r. ⌜ r ≡ allows kind (now (marks .entry)) p ⌝ }
+    ensures { λ r. ⌜ r ≡ emptyIn (now (marks .entry)) p ⌝ }
 {
-    let empty = marks[Machine::DRAINED + p] == marks[Machine::ISSUED + p];
-    guards::permitted(kind, marks[Machine::HOLDER], p, empty)
+    marks[Machine::DRAINED + p] == marks[Machine::ISSUED + p]
 }
 
 pub fn fence(marks: &[usize; Machine::MARKS], p: usize) -> Attempt
     requires { do ⌜ p < (← ⟦Program::PROCESSORS⟧) ⌝ }
-    ensures { λ r. do ⌜ r ≡ judged (allows (← ⟦FENCE⟧ .entry) (now (marks .entry)) p) ⌝ }
+    ensures { λ r. do ⌜ r ≡ attempted (← ⟦FENCE⟧ .entry) (now (marks .entry)) p true ⌝ }
 {
-    if allowed(FENCE, marks, p) {
+    if is_empty(marks, p) {
         return Attempt::Taken;
     }
-    Attempt::Turned(Refusal::NotAllowed)
+    Attempt::Turned(Condition::NotEmpty)
 }
 
 pub fn lock(marks: &mut [usize; Machine::MARKS], p: usize) -> Attempt
     requires { do ⌜ p < (← ⟦Program::PROCESSORS⟧) ⌝ }
     ensures { λ r. do ⌜ Holds (← ⟦LOCK⟧ .entry) p (now (marks .entry)) p r (now (marks .exit)) ⌝ }
 {
-    if allowed(LOCK, marks, p) {
+    if guards::blocked(marks[Machine::HOLDER], p) {
+        return Attempt::Turned(Condition::LockHeld);
+    }
+    if is_empty(marks, p) {
         marks[Machine::HOLDER] = p;
         return Attempt::Taken;
     }
-    Attempt::Turned(Refusal::NotAllowed)
+    Attempt::Turned(Condition::NotEmpty)
 }
 
+// Who comes to an unlock holds the lock.
 pub fn unlock(marks: &mut [usize; Machine::MARKS], p: usize) -> Attempt
     requires { do ⌜ p < (← ⟦Program::PROCESSORS⟧) ⌝ }
     ensures { λ r. do ⌜ Holds (← ⟦UNLOCK⟧ .entry) nobody (now (marks .entry)) p r (now (marks .exit)) ⌝ }
 {
-    if allowed(UNLOCK, marks, p) {
+    if is_empty(marks, p) {
         marks[Machine::HOLDER] = NOBODY;
         return Attempt::Taken;
     }
-    Attempt::Turned(Refusal::NotAllowed)
+    Attempt::Turned(Condition::NotEmpty)
 }
 
 // A local step: nothing stops it.

@@ -5,16 +5,20 @@ use Prim.Native.Nat.{ℕ}
 use native.Mathlib.Omega.{arith}
 use lib.ListN.{getD}
 use Rattle.model.specs.declared.answer.Refusal.{Refusal}
-use Rattle.model.specs.declared.answer.Refusal.the-variants.{TableLength, TableKind, TableRange, TableUnused, InitialLate, CellTwice, Seventeenth, TraceLength, StepKind, StepField, NotAllowed, Unfinished, RoomTooSmall}
+use Rattle.model.specs.declared.answer.Refusal.the-variants.{TableLength, TableKind, TableRange, TableUnused, InitialLate, CellTwice, Seventeenth, TraceLength, StepKind, StepField, StepTurned, Unfinished, RoomTooSmall}
+use Rattle.model.specs.declared.answer.Condition.{Condition}
+use Rattle.model.specs.declared.answer.Condition.the-variants.{AnotherKind, NothingWaits, LockHeld, NotEmpty, NotRight}
 use Rattle.model.specs.declared.answer.Answer.{Answer}
 use Rattle.model.specs.declared.answer.Answer.the-variants.{Done, Refused}
+use Rattle.model.specs.Rules.{conditionNumber}
 use Rattle.model.specs.Reply.{Reply, numberOf, replyOf}
 
--- the refusal of a number
+-- the refusal of a number; there is none of number 0, nor of 11
 refusalOf : ℕ → Refusal
 refusalOf n =
     getD (TableLength ∷ TableLength ∷ TableKind ∷ TableRange ∷ TableUnused ∷ InitialLate ∷ CellTwice ∷ Seventeenth
-    ∷ TraceLength ∷ StepKind ∷ StepField ∷ NotAllowed ∷ Unfinished ∷ RoomTooSmall ∷ []) n TableLength
+    ∷ TraceLength ∷ StepKind ∷ StepField ∷ TableLength ∷ Unfinished ∷ RoomTooSmall
+    ∷ StepTurned AnotherKind ∷ StepTurned NotRight ∷ StepTurned LockHeld ∷ StepTurned NotEmpty ∷ StepTurned NothingWaits ∷ []) n TableLength
 
 refusal-back : (r : Refusal) → refusalOf (numberOf r) ≡ r
 unfolding refusalOf
@@ -28,11 +32,19 @@ refusal-back Seventeenth = refl
 refusal-back TraceLength = refl
 refusal-back StepKind = refl
 refusal-back StepField = refl
-refusal-back NotAllowed = refl
+refusal-back (StepTurned AnotherKind) = refl
+refusal-back (StepTurned NothingWaits) = refl
+refusal-back (StepTurned LockHeld) = refl
+refusal-back (StepTurned NotEmpty) = refl
+refusal-back (StepTurned NotRight) = refl
 refusal-back Unfinished = refl
 refusal-back RoomTooSmall = refl
 
-not-zero : (r : Refusal) → ¬ (numberOf r ≡ 0)
+-- a condition has its own number
+pub one-condition : (c d : Condition) → conditionNumber c ≡ conditionNumber d → c ≡ d
+one-condition c d h = let same : StepTurned c ≡ StepTurned d = sym (refusal-back (StepTurned c)) ∙ ap refusalOf h ∙ refusal-back (StepTurned d) in cc
+
+pub not-zero : (r : Refusal) → ¬ (numberOf r ≡ 0)
 unfolding refusalOf
 not-zero r h =
     let first : r ≡ TableLength = sym (refusal-back r) ∙ ap refusalOf h in

@@ -1,13 +1,14 @@
 -- Tests, and the facts that they decide.
-use mathlib.Core.Path.{_≡_, refl, ap}
-use mathlib.Core.Bool.{Bool, true, false, cond, _&&_, false≢true}
+use mathlib.Core.Path.{_≡_, refl, sym, ap, _∙_}
+use mathlib.Core.Logic.{_↔_}
+use mathlib.Core.Bool.{Bool, true, false, cond, not, _&&_, false≢true}
 use mathlib.Core.List.{List, [], _∷_}
 use Prim.Native.Nat.{ℕ}
 use lib.Dec.{eqb}
-use borrow.Author.Tests.{eqb-true, eqb-false, eq-eqb}
+use borrow.Author.Tests.{eqb-true, eqb-false, eq-eqb, ne-eqb, not-true}
 use Rattle.model.specs.Machine.{Machine, Holder, free, held}
 use Rattle.model.specs.Rules.{Event, Blocked}
-use Rattle.model.specs.Step.{notBlocked, isFree, holds, isEmpty, same}
+use Rattle.model.specs.Step.{blocked, holds, isEmpty, same}
 
 -- a test as a number, for counting
 abbrev pub one : Bool → ℕ
@@ -15,6 +16,24 @@ one b = cond b 1 0
 
 pub false-true {ℓ} : {A : Type ℓ} → false ≡ true → A
 false-true e = absurd (false≢true e)
+
+-- ---- a test decides a fact, met or not
+
+pub met : {T : Type 0} (b : Bool) → (b ≡ false) ↔ T → ¬ T → b ≡ true
+met true d n = refl
+met false d n = absurd (n (d .0 refl))
+
+pub not-met : {T : Type 0} (b : Bool) → (b ≡ false) ↔ T → b ≡ true → ¬ T
+not-met b d h t = false≢true (sym (d .1 t) ∙ h)
+
+pub failed : {T : Type 0} (b : Bool) → (b ≡ true) ↔ T → b ≡ false → ¬ T
+failed b d h t = false≢true (sym h ∙ d .1 t)
+
+pub fails : {T : Type 0} (b : Bool) → (b ≡ true) ↔ T → ¬ T → b ≡ false
+fails true d n = absurd (n (d .0 refl))
+fails false d n = refl
+
+-- ---- both of two
 
 pub and-true : {a b : Bool} → a ≡ true → b ≡ true → a && b ≡ true
 and-true {a} {b} p q = rw (p, q)
@@ -53,31 +72,28 @@ pub same-refl : (e : Event) → same e e ≡ true
 unfolding same
 same-refl e = and-true (and-true (and-true (and-true (self (e .kind)) (self (e .processor))) (self (e .register))) (self (e .location))) (self (e .value))
 
-pub notBlocked-true : (s : Machine) (p : ℕ) → notBlocked (s .holder) p ≡ true → ¬ Blocked s p
-unfolding notBlocked
-notBlocked-true s p t b = b .2 (eqb-true (b .0) p (rw (b .1) at t))
+-- ---- the tests of the rules
 
-pub true-notBlocked : (s : Machine) (p : ℕ) → ¬ Blocked s p → notBlocked (s .holder) p ≡ true
-unfolding notBlocked
-true-notBlocked s p n = go (s .holder) refl
+-- a negated test decides that the fact does not hold
+pub unless-so : {T : Type 0} (b : Bool) → (b ≡ true) ↔ T → (not b ≡ true) ↔ ¬ T
+unless-so b d = (λ h. failed b d (not-true b h), λ n. ap not (fails b d n))
+
+pub blocked-test : (s : Machine) (p : ℕ) → (blocked (s .holder) p ≡ true) ↔ Blocked s p
+unfolding blocked
+blocked-test s p = (go (s .holder) refl, λ b. rw (b .1) (ap not (ne-eqb (b .0) p (b .2))))
   where
-    other : (q : ℕ) → s .holder ≡ held q → (b : Bool) → eqb q p ≡ b → b ≡ true
-    other q h true e = refl
-    other q h false e = absurd (n (q, h, eqb-false q p e))
-
-    go : (h : Holder) → s .holder ≡ h → notBlocked h p ≡ true
-    go free h = refl
-    go (held q) h = other q h (eqb q p) refl
+    go : (h : Holder) → s .holder ≡ h → blocked h p ≡ true → Blocked s p
+    go free e t = false-true t
+    go (held q) e t = (q, e, eqb-false q p (not-true (eqb q p) t))
 
 pub isEmpty-true : {A : Type 0} (l : List A) → isEmpty l ≡ true → l ≡ []
 unfolding isEmpty
 isEmpty-true [] e = refl
 isEmpty-true (a ∷ l) e = false-true e
 
-pub isFree-true : (h : Holder) → isFree h ≡ true → h ≡ free
-unfolding isFree
-isFree-true free e = refl
-isFree-true (held q) e = false-true e
+pub empty-test : {A : Type 0} (l : List A) → (isEmpty l ≡ true) ↔ (l ≡ [])
+unfolding isEmpty
+empty-test l = (isEmpty-true l, λ e. rw e)
 
 pub holds-true : (h : Holder) (p : ℕ) → holds h p ≡ true → h ≡ held p
 unfolding holds

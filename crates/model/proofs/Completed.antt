@@ -16,12 +16,13 @@ use Rattle.model.specs.Finish.{completion}
 use Rattle.model.specs.Reply.{Reply, done, words}
 use Rattle.model.specs.Calls.{checked, completed}
 use Rattle.model.specs.Numbers.{Follows, Finishes}
-use Rattle.model.specs.Promises.{Bytes, Lent, Completes, Added, stepsIn, Demand3, FinishMeets}
+use Rattle.model.specs.Promises.{Bytes, Lent, Completes, Added, stepsIn, Demand3, NotEleven, FinishMeets}
 use Rattle.model.proofs.Runs.{run-append, finished-length}
 use Rattle.model.proofs.Words.{file-length}
 use Rattle.model.proofs.Bytes.{length-records, records-append, records-file}
 use Rattle.model.proofs.Finish.{completion-runs, completion-completes}
 use Rattle.model.proofs.Proper.{later-small}
+use Rattle.model.proofs.Given.{stops-number}
 use Rattle.model.proofs.Replies.{completed-exactly}
 use Rattle.model.proofs.Rooms.{completion-length, finish-lends}
 use Rattle.model.proofs.Demands.{check-meets}
@@ -42,6 +43,11 @@ checks-behind table trace steps lent entries k readable whole wholes c l =
     let both : Whole (trace ++ steps) = simp length-append (omega arith) in
     check-meets table (trace ++ steps) lent _ refl .demand2 entries readable both .reports l (c .end) (rw read (c .run)) (c .finished)
     ∙ ap (λ (n : ℕ). done n (words (c .end) ++ drop resultWords lent)) (ap (λ (es : List Event). length es) read ∙ c .steps)
+
+finish-not-eleven : (table trace room : List ℕ) (r : Reply) → Finishes table trace room r → NotEleven r
+finish-not-eleven table trace room r (Finishes.stopped {n} {i} s) h = stops-number table trace n i s .1 h
+finish-not-eleven table trace room r (Finishes.tooSmall f m) h = omega arith
+finish-not-eleven table trace room r (Finishes.completed es u f c m) h = omega arith
 
 module _ (table trace room : List ℕ) (r : Reply) (e : r ≡ completed table trace room) where
   gives : (q : Reply) → Finishes table trace room q → r ≡ q
@@ -87,5 +93,6 @@ module _ (table trace room : List ℕ) (r : Reply) (e : r ≡ completed table tr
   finish-meets = record {
     stated = completed-exactly table trace room r .0 (sym e);
     lent = subst (Lent room) (sym e) (finish-lends table trace room);
+    notEleven = finish-not-eleven table trace room r (completed-exactly table trace room r .0 (sym e));
     demand3 = demand3;
   }

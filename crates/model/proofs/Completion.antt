@@ -18,13 +18,13 @@ use Rattle.model.proofs.Finish.{finishing-allowed, finishing-is-run, fi
 
 -- an allowed step with something waiting is a drain exactly when its kind says so
 drain-waits : (s : Machine) (e : Event) (t : Machine) → Allowed s e t → e .kind ≡ 3 → ¬ (processor s (e .processor) .waiting ≡ [])
-drain-waits s e t (Read h n u) k w = omega arith
-drain-waits s e t (Write h v) k w = omega arith
-drain-waits s e t (Drain n h) k w = nil≢cons (sym w ∙ h)
-drain-waits s e t (Fence h f) k w = omega arith
-drain-waits s e t (Lock h f g) k w = omega arith
-drain-waits s e t (Unlock h f g) k w = omega arith
-drain-waits s e t (Local h) k w = omega arith
+drain-waits s e t (Read c h) k w = omega arith
+drain-waits s e t (Write c h) k w = omega arith
+drain-waits s e t (Drain c h) k w = nil≢cons (sym w ∙ h)
+drain-waits s e t (Fence c h) k w = omega arith
+drain-waits s e t (Lock c h f) k w = omega arith
+drain-waits s e t (Unlock c h f) k w = omega arith
+drain-waits s e t (Local c h) k w = omega arith
 
 drainOrNext-waits : (s : Machine) (p : ℕ) (ws : List WaitingWrite) → ¬ (ws ≡ []) → drainOrNext s p ws ≡ drainMove s p ws
 unfolding drainOrNext

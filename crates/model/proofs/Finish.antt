@@ -1,23 +1,23 @@
 -- Finishing: from any machine that a run reaches, with k steps left, the function gives k steps, each the finishing step, and the run is then finished.
 use mathlib.Core.Path.{_≡_, refl, sym, ap, _∙_, subst}
-use mathlib.Core.Bool.{Bool, true, false}
 use mathlib.Core.Option.{Option, some}
-use mathlib.Core.List.{List, [], _∷_}
+use mathlib.Core.List.{List, [], _∷_, nil≢cons}
 use Prim.Native.Nat.{ℕ, zero, suc, _<_}
 use native.Mathlib.Nat.{suc-inj}
 use native.Mathlib.Omega.{arith}
+use Rattle.model.specs.declared.answer.Condition.the-variants.{AnotherKind}
 use Rattle.model.specs.Program.{ProgramStep, read, write, fence, lock, unlock, local}
 use Rattle.model.specs.Kinds.{Entry}
 use Rattle.model.specs.Table.{start}
-use Rattle.model.specs.Machine.{Machine, WaitingWrite, Holder, free, held, processor}
-use Rattle.model.specs.Rules.{Event, Allowed, Drain, Run}
-use Rattle.model.specs.Step.{Move, notBlocked, isFree, holds, nextMove, moveFor}
+use Rattle.model.specs.Machine.{Machine, WaitingWrite, processor, cell}
+use Rattle.model.specs.Rules.{Event, event, kindOf, Blocked, ofRead, ofWrite, ofDrain, Met, conditions, Allowed, Read, Write, Drain, Fence, Lock, Unlock, Local, Run}
+use Rattle.model.specs.Step.{Move, nextMove}
 use Rattle.model.specs.Left.{left, Done, Finished, Mover, FinishingStep, drains, goesOn, FinishingRun}
 use Rattle.model.specs.Finish.{mover, drainOrNext, finishingMove, finishing, completion}
-use Rattle.model.specs.Orderly.{Paired, Orderly}
+use Rattle.model.specs.Orderly.{Orderly}
 use Rattle.model.specs.Promises.{Completes}
-use Rattle.model.proofs.Bools.{and-true, notBlocked-true}
-use Rattle.model.proofs.Steps.{take-move, step-allowed}
+use Rattle.model.proofs.Sees.{newest-seen}
+use Rattle.model.proofs.Clears.{unlock-held, lock-free}
 use Rattle.model.proofs.Left.{one-less, zero-finished}
 use Rattle.model.proofs.Orderly.{orderly-kept}
 use Rattle.model.proofs.Runs.{reached-orderly, finished-length}
@@ -25,46 +25,31 @@ use Rattle.model.proofs.Movers.{mover-moves, mover-free, mover-busy}
 
 -- ---- the move that the function chooses is allowed
 
--- o is an allowed move of processor p, which its own event asks for
+-- o is an allowed move of processor p
 record Chosen (s : Machine) (p : ℕ) (o : Option Move) : Type 0 where
   move : Move
   given : o ≡ some move
   whose : move .event .processor ≡ p
-  asked : moveFor s (move .event) ≡ some move
-  allowed : move .allowed ≡ true
+  allowed : Allowed s (move .event) (move .after)
 
--- a lock that p may take is free, one that p may give back is p's
-free-to-take : (h : Holder) (p : ℕ) (rest : List ProgramStep) → notBlocked h p ≡ true → Paired (holds h p) (lock ∷ rest) → isFree h ≡ true
-unfolding isFree holds notBlocked
-free-to-take free p rest n k = refl
-free-to-take (held q) p rest n k = absurd (rw n at k)
+module _ (s : Machine) (p : ℕ) (orderly : Orderly s) (busy : ¬ Done (processor s p)) (n : ¬ Blocked s p) (w : processor s p .waiting ≡ []) where
+  -- its kind is that of the next step, and nothing waits
+  is-next : (next : ProgramStep) (rest : List ProgramStep) → processor s p .todo ≡ next ∷ rest → ¬ Met AnotherKind s (event (kindOf next) p 0 0)
+  is-next next rest h m = m next rest h refl
 
-held-to-give : (b : Bool) (rest : List ProgramStep) → Paired b (unlock ∷ rest) → b ≡ true
-held-to-give true rest k = refl
-held-to-give false rest k = absurd k
+  is-empty : ¬ ¬ (processor s p .waiting ≡ [])
+  is-empty m = m w
 
-module _ (s : Machine) (p : ℕ) (busy : ¬ Done (processor s p)) (n : notBlocked (s .holder) p ≡ true) where
-  choose-next : (todo : List ProgramStep) → processor s p .todo ≡ todo → processor s p .waiting ≡ [] → Paired (holds (s .holder) p) todo → Chosen s p (nextMove s p todo)
-  unfolding moveFor
-  choose-next [] h w o = absurd (busy (h, w))
-  choose-next (read x to ∷ rest) h w o = record { move = _; given = refl; whose = refl; asked = ap (nextMove s p) h; allowed = n }
-  choose-next (write x from ∷ rest) h w o = record { move = _; given = refl; whose = refl; asked = ap (nextMove s p) h; allowed = refl }
-  choose-next (fence ∷ rest) h w o = record { move = _; given = refl; whose = refl; asked = ap (nextMove s p) h; allowed = rw w }
-  choose-next (lock ∷ rest) h w o = record {
-    move = _;
-    given = refl;
-    whose = refl;
-    asked = ap (nextMove s p) h;
-    allowed = and-true (free-to-take (s .holder) p rest n o) (rw w);
-  }
-  choose-next (unlock ∷ rest) h w o = record {
-    move = _;
-    given = refl;
-    whose = refl;
-    asked = ap (nextMove s p) h;
-    allowed = and-true (held-to-give (holds (s .holder) p) rest o) (rw w);
-  }
-  choose-next (local r v ∷ rest) h w o = record { move = _; given = refl; whose = refl; asked = ap (nextMove s p) h; allowed = refl }
+  choose-next : (todo : List ProgramStep) → processor s p .todo ≡ todo → Chosen s p (nextMove s p todo)
+  unfolding nextMove conditions
+  choose-next [] h = absurd (busy (h, w))
+  choose-next (read x to ∷ rest) h =
+      record { move = _; given = refl; whose = refl; allowed = Read (is-next _ rest h, (n, (λ m. m (ofRead h (newest-seen (processor s p .waiting) x (cell s x))), tt))) h }
+  choose-next (write x from ∷ rest) h = record { move = _; given = refl; whose = refl; allowed = Write (is-next _ rest h, (λ m. m (ofWrite h refl), tt)) h }
+  choose-next (fence ∷ rest) h = record { move = _; given = refl; whose = refl; allowed = Fence (is-next _ rest h, (is-empty, tt)) h }
+  choose-next (lock ∷ rest) h = record { move = _; given = refl; whose = refl; allowed = Lock (is-next _ rest h, (n, (is-empty, tt))) h (lock-free s orderly p rest h n) }
+  choose-next (unlock ∷ rest) h = record { move = _; given = refl; whose = refl; allowed = Unlock (is-next _ rest h, (is-empty, tt)) h (unlock-held s orderly p rest h) }
+  choose-next (local r v ∷ rest) h = record { move = _; given = refl; whose = refl; allowed = Local (is-next _ rest h, tt) h }
 
 -- ---- so it is the finishing step
 
@@ -74,11 +59,8 @@ pub record Finisher (s : Machine) : Type 0 where
   pub given : finishingMove s ≡ some move
   pub finishes : FinishingStep s (move .event) (move .after)
 
-chosen-allowed : (s : Machine) (p : ℕ) (o : Option Move) (c : Chosen s p o) → Allowed s (c .move .event) (c .move .after)
-chosen-allowed s p o c = step-allowed s _ _ (take-move s (c .move) (c .asked) (c .allowed))
-
 pub finisher : (s : Machine) → Orderly s → 0 < left s → Finisher s
-unfolding finishingMove drainOrNext
+unfolding finishingMove drainOrNext conditions
 finisher s o b = go (processor s p .waiting) refl
   where
     p : ℕ
@@ -89,13 +71,17 @@ finisher s o b = go (processor s p .waiting) refl
 
     go : (ws : List WaitingWrite) → processor s p .waiting ≡ ws → Finisher s
     go [] h =
-        let c = choose-next s p (mover-busy s p o m) (mover-free s p m) (processor s p .todo) refl h (o p) in
+        let c = choose-next s p o (mover-busy s p o m) (mover-free s p m) h (processor s p .todo) refl in
         record {
           move = c .move;
           given = ap (drainOrNext s p) h ∙ c .given;
-          finishes = goesOn (subst (Mover s) (sym (c .whose)) m) (ap (λ (q : ℕ). processor s q .waiting) (c .whose) ∙ h) (chosen-allowed s p _ c);
+          finishes = goesOn (subst (Mover s) (sym (c .whose)) m) (ap (λ (q : ℕ). processor s q .waiting) (c .whose) ∙ h) (c .allowed);
         }
-    go (w ∷ newer) h = record { move = _; given = ap (drainOrNext s p) h; finishes = drains m (Drain (notBlocked-true s p (mover-free s p m)) h) }
+    go (w ∷ newer) h = record {
+      move = _;
+      given = ap (drainOrNext s p) h;
+      finishes = drains m (Drain (λ e. nil≢cons (sym e ∙ h), (mover-free s p m, (λ e. e (ofDrain h), tt))) h);
+    }
 
 -- nothing is ever stuck: with k above zero a step is allowed, and the finishing step is one
 pub never-stuck : (entries : List Entry) (es : List Event) (s : Machine) → Run (start entries) es s → 0 < left s → (e : Event) × (t : Machine) × FinishingStep s e t

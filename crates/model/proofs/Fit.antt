@@ -15,6 +15,7 @@ use Rattle.model.specs.Rules.{Event, Allowed, Read, Write, Drain, Fence,
 use Rattle.model.specs.Step.{newest}
 use Rattle.model.proofs.Lists.{each, all-append}
 use Rattle.model.proofs.Sees.{sees-newest}
+use Rattle.model.proofs.Steps.{read-sees, write-issues}
 
 module _ (Value : ℕ → Type 0) where
   -- ---- what fits
@@ -122,37 +123,37 @@ module _ (Value : ℕ → Type 0) where
 
     pub event-fits : (s : Machine) (e : Event) (t : Machine) → Allowed s e t → MachineFits s → EventFits e
     unfolding cell
-    event-fits s e t (Read {p} {x} {v} {rest = rest} h n u) f = record {
+    event-fits s e t (Read {p} {x} {v} {rest = rest} c h) f = record {
       location = rest-fits (processor s p) _ rest (f .each-one p) h .0;
-      value = subst Value (sees-newest (processor s p .waiting) x (cell s x) v u) (newest-fits (processor s p .waiting) x (cell s x) (f .each-one p .waiting) (f .memory x));
+      value = subst Value (sees-newest (processor s p .waiting) x (cell s x) v (read-sees s p x v c)) (newest-fits (processor s p .waiting) x (cell s x) (f .each-one p .waiting) (f .memory x));
     }
-    event-fits s e t (Write {p} {x} {v} {from = from} {rest = rest} h i) f =
+    event-fits s e t (Write {p} {x} {v} {from = from} {rest = rest} c h) f =
         let k = rest-fits (processor s p) _ rest (f .each-one p) h .0 in
-        record { location = k .0; value = subst Value i (issued-fits (processor s p) from (f .each-one p) (k .1)) }
-    event-fits s e t (Drain {p} n h) f = let k = rw h at (f .each-one p .waiting) in record { location = k .0 .0; value = k .0 .1 }
-    event-fits s e t (Fence h w) f = record { location = omega arith; value = reduced 0 }
-    event-fits s e t (Lock h g w) f = record { location = omega arith; value = reduced 0 }
-    event-fits s e t (Unlock h g w) f = record { location = omega arith; value = reduced 0 }
-    event-fits s e t (Local h) f = record { location = omega arith; value = reduced 0 }
+        record { location = k .0; value = subst Value (write-issues s p x v c h) (issued-fits (processor s p) from (f .each-one p) (k .1)) }
+    event-fits s e t (Drain {p} c h) f = let k = rw h at (f .each-one p .waiting) in record { location = k .0 .0; value = k .0 .1 }
+    event-fits s e t (Fence c h) f = record { location = omega arith; value = reduced 0 }
+    event-fits s e t (Lock c h g) f = record { location = omega arith; value = reduced 0 }
+    event-fits s e t (Unlock c h g) f = record { location = omega arith; value = reduced 0 }
+    event-fits s e t (Local c h) f = record { location = omega arith; value = reduced 0 }
 
     pub step-fits : (s : Machine) (e : Event) (t : Machine) → Allowed s e t → MachineFits s → MachineFits t
     unfolding withHolder processor
-    step-fits s e t (Read {p} {x} {v} {to = to} {rest = rest} h n u) f =
+    step-fits s e t (Read {p} {x} {v} {to = to} {rest = rest} c h) f =
         with-fits s p _ f
-        (received-fits (processor s p) rest to v (f .each-one p) (rest-fits (processor s p) _ rest (f .each-one p) h .1) (event-fits s _ _ (Read {to = to} h n u) f .value))
-    step-fits s e t (Write {p} {x} {from = from} {rest = rest} h v) f =
+        (received-fits (processor s p) rest to v (f .each-one p) (rest-fits (processor s p) _ rest (f .each-one p) h .1) (event-fits s _ _ (Read {to = to} c h) f .value))
+    step-fits s e t (Write {p} {x} {from = from} {rest = rest} c h) f =
         let k = rest-fits (processor s p) _ rest (f .each-one p) h in
         with-fits s p _ f (wrote-fits (processor s p) rest x from (f .each-one p) (k .1) (k .0))
-    step-fits s e t (Drain {p} {x} {v} {newer = newer} n h) f =
+    step-fits s e t (Drain {p} {x} {v} {newer = newer} c h) f =
         let k = rw h at (f .each-one p .waiting) in
         cell-fits (withProcessor s p (drained (processor s p) newer)) x v (with-fits s p _ f (drained-fits (processor s p) newer (f .each-one p) (k .1))) (k .0 .1)
-    step-fits s e t (Fence {p} {rest = rest} h w) f = with-fits s p _ f (advanced-fits (processor s p) rest (f .each-one p) (rest-fits (processor s p) _ rest (f .each-one p) h .1))
-    step-fits s e t (Lock {p} {rest = rest} h g w) f =
+    step-fits s e t (Fence {p} {rest = rest} c h) f = with-fits s p _ f (advanced-fits (processor s p) rest (f .each-one p) (rest-fits (processor s p) _ rest (f .each-one p) h .1))
+    step-fits s e t (Lock {p} {rest = rest} c h g) f =
         let k = with-fits s p _ f (advanced-fits (processor s p) rest (f .each-one p) (rest-fits (processor s p) _ rest (f .each-one p) h .1)) in
         record { each-one = k .each-one; memory = k .memory }
-    step-fits s e t (Unlock {p} {rest = rest} h g w) f =
+    step-fits s e t (Unlock {p} {rest = rest} c h g) f =
         let k = with-fits s p _ f (advanced-fits (processor s p) rest (f .each-one p) (rest-fits (processor s p) _ rest (f .each-one p) h .1)) in
         record { each-one = k .each-one; memory = k .memory }
-    step-fits s e t (Local {p} {r} {v} {rest = rest} h) f =
+    step-fits s e t (Local {p} {r} {v} {rest = rest} c h) f =
         let k = rest-fits (processor s p) _ rest (f .each-one p) h in
         with-fits s p _ f (assigned-fits (processor s p) rest r v (f .each-one p) (k .1) (k .0))

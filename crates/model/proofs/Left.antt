@@ -54,17 +54,17 @@ pub record Moves (s t : Machine) (p : ℕ) : Type 0 where
 
 pub moves : (s : Machine) (e : Event) (t : Machine) → Allowed s e t → Moves s t (e .processor)
 unfolding withProcessor withHolder withCell advanced assigned received leftOf writesOf
-moves s e t (Read {p} {v = v} {to = to} {rest = rest} h n u) = record {
+moves s e t (Read {p} {v = v} {to = to} {rest = rest} c h) = record {
   after = _;
   placed = refl;
   less = received-less (processor s p) rest to v (goes-on (processor s p) _ rest h refl);
 }
-moves s e t (Write {p} {rest = rest} h v) = record { after = _; placed = refl; less = issues-one (processor s p) _ _ rest h }
-moves s e t (Drain {p} n h) = record { after = _; placed = refl; less = drains-one (processor s p) _ _ h }
-moves s e t (Fence {p} {rest = rest} h w) = record { after = _; placed = refl; less = goes-on (processor s p) _ rest h refl }
-moves s e t (Lock {p} {rest = rest} h f w) = record { after = _; placed = refl; less = goes-on (processor s p) _ rest h refl }
-moves s e t (Unlock {p} {rest = rest} h f w) = record { after = _; placed = refl; less = goes-on (processor s p) _ rest h refl }
-moves s e t (Local {p} {r} {v} {rest = rest} h) = record { after = _; placed = refl; less = received-less (processor s p) rest (into r) v (goes-on (processor s p) _ rest h refl) }
+moves s e t (Write {p} {rest = rest} c h) = record { after = _; placed = refl; less = issues-one (processor s p) _ _ rest h }
+moves s e t (Drain {p} c h) = record { after = _; placed = refl; less = drains-one (processor s p) _ _ h }
+moves s e t (Fence {p} {rest = rest} c h) = record { after = _; placed = refl; less = goes-on (processor s p) _ rest h refl }
+moves s e t (Lock {p} {rest = rest} c h f) = record { after = _; placed = refl; less = goes-on (processor s p) _ rest h refl }
+moves s e t (Unlock {p} {rest = rest} c h f) = record { after = _; placed = refl; less = goes-on (processor s p) _ rest h refl }
+moves s e t (Local {p} {r} {v} {rest = rest} c h) = record { after = _; placed = refl; less = received-less (processor s p) rest (into r) v (goes-on (processor s p) _ rest h refl) }
 
 falls : (Ps : List Processor) (p : ℕ) (P : Processor) → leftOf (getD Ps p idle) ≡ suc (leftOf P) → leftIn Ps ≡ suc (leftIn (set Ps p P))
 unfolding leftIn idle

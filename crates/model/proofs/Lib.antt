@@ -3,7 +3,10 @@ pub mod Sheet
 -- ---- the machine
 pub mod Bools
 pub mod Sees
+pub mod Conditions
 pub mod Steps
+pub mod Events
+pub mod Clears
 pub mod Lists
 pub mod Left
 pub mod Orderly
@@ -29,6 +32,7 @@ pub mod FitStart
 pub mod Proper
 -- ---- replies
 pub mod Following
+pub mod Reasons
 pub mod Numbers
 pub mod Replies
 pub mod Rooms

@@ -6,7 +6,8 @@ use Prim.Native.Nat.{ℕ, zero, suc, _<_}
 use native.Mathlib.Omega.{arith}
 use lib.ListN.{getD}
 use Rattle.model.specs.Machine.{Machine, Processor, Holder, free, held, processor, idle}
-use Rattle.model.specs.Step.{notBlocked, holds}
+use Rattle.model.specs.Rules.{Blocked}
+use Rattle.model.specs.Step.{holds}
 use Rattle.model.specs.Left.{leftIn, left, Done, Mover}
 use Rattle.model.specs.Finish.{isDone, firstBusy, mover}
 use Rattle.model.specs.Orderly.{Paired, Orderly}
@@ -65,10 +66,9 @@ one-mover s p (Mover.lowest e n d) = rw e (busy-is-first (s .processors) p n d)
 holder-busy : (P : Processor) → Paired true (P .todo) → ¬ Done P
 holder-busy P k d = rw (d .0) at k
 
-pub mover-free : (s : Machine) (p : ℕ) → Mover s p → notBlocked (s .holder) p ≡ true
-unfolding notBlocked holds
-mover-free s p (Mover.holder e) = rw e (holds-self p)
-mover-free s p (Mover.lowest e n d) = rw e
+pub mover-free : (s : Machine) (p : ℕ) → Mover s p → ¬ Blocked s p
+mover-free s p (Mover.holder e) b = let q = b .0 in let both : held q ≡ held p = sym (b .1) ∙ e in b .2 cc
+mover-free s p (Mover.lowest e n d) b = let q = b .0 in let both : held q ≡ free = sym (b .1) ∙ e in let z : _≡_ {A = ℕ} 0 1 = cc in omega arith
 
 pub mover-busy : (s : Machine) (p : ℕ) → Orderly s → Mover s p → ¬ Done (processor s p)
 unfolding processor

@@ -1,4 +1,4 @@
--- Numbers 1 to 11: a table and a trace are followed to the end, or stopped by the first test that does not pass.
+-- Numbers 1 to 10 and 14 to 18: a table and a trace are followed to the end, or stopped by the first test that does not pass.
 use mathlib.Core.Path.{_≡_, sym, ap, _∙_, subst}
 use mathlib.Core.Logic.{_↔_, _⊎_, inl, inr}
 use mathlib.Core.List.{List, [], _∷_, _++_}
@@ -18,6 +18,7 @@ use Rattle.model.specs.Numbers.{Turns, Follows, Stops, tableLength, tabl
 use Rattle.model.proofs.Tests.{and-then-passed, and-then-refused, then-passed, then-refused}
 use Rattle.model.proofs.InOrder.{Earliest, in-order-at, file-whole, file-not-whole, file-passed, file-refused}
 use Rattle.model.proofs.Reading.{read-refused, read-refuses, reads, reads-back, readable-exactly}
+use Rattle.model.proofs.Start.{start-orderly}
 use Rattle.model.proofs.Proper.{run-proper}
 use Rattle.model.proofs.Following.{take-refused, take-turns, runs, runs-back}
 
@@ -32,7 +33,7 @@ unfolding tried following
 tried-follows table trace s = (
   λ h. let a = and-then-passed (reading table) (λ es. following (start es) trace) s h in
       let f = file-passed 8 takeRecord (start (a .0)) s trace (a .2) in
-      record { entries = a .0; readable = readable-exactly table (a .0) .0 (a .1); whole = f .0; run = runs 0 (start (a .0)) s (records trace) (f .1) },
+      record { entries = a .0; readable = readable-exactly table (a .0) .0 (a .1); whole = f .0; run = runs 0 (start (a .0)) s (records trace) (start-orderly (a .0)) (f .1) },
   λ f. then-passed (reading table) (λ es. following (start es) trace) (f .entries) (readable-exactly table (f .entries) .1 (f .readable))
       ∙ file-whole 8 takeRecord (start (f .entries)) trace (f .whole) ∙ follows-passes table trace (records trace) s f,
 )
@@ -60,7 +61,7 @@ trace-stops table trace es n i readable h = go (file-refused 8 takeRecord (start
     go (inr w) =
         let e = w .1 in
         let t = take-refused (0 + length (e .before)) (e .given) (e .r) n i (e .refuses) in
-        let f : Follows table trace (e .before) (e .given) = record { entries = es; readable = readable; whole = w .0; run = runs 0 (start es) (e .given) (e .before) (e .passes) } in
+        let f : Follows table trace (e .before) (e .given) = record { entries = es; readable = readable; whole = w .0; run = runs 0 (start es) (e .given) (e .before) (start-orderly es) (e .passes) } in
         subst (λ (j : ℕ). Stops table trace n j) (sym (zero-add (length (e .before))) ∙ t .1) (traceRecord (e .before) f (e .after, e .found) (t .0))
 
 stops-table : (table trace : List ℕ) (n i : ℕ) → reading table ≡ refused n i → tried table trace ≡ refused n i

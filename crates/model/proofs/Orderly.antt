@@ -44,10 +44,10 @@ received-todo P rest aside v = refl
 
 pub orderly-kept : (s : Machine) (e : Event) (t : Machine) → Allowed s e t → Orderly s → Orderly t
 unfolding advanced assigned wrote drained withCell holds withProcessor processor
-orderly-kept s e t (Read {p} {v = v} {to = to} {rest = rest} h n u) o = keep s p _ o (rw (received-todo (processor s p) rest to v) (rw h at (o p)))
-orderly-kept s e t (Write {p} h v) o = keep s p _ o (rw h at (o p))
-orderly-kept s e t (Drain {p} n h) o = keep s p _ o (o p)
-orderly-kept s e t (Fence {p} h w) o = keep s p _ o (rw h at (o p))
-orderly-kept s e t (Lock {p} h f w) o = take s p _ (not-idle _ _ _ h) o f (rw (h, f) at (o p))
-orderly-kept s e t (Unlock {p} h f w) o = give s p _ (not-idle _ _ _ h) o f (rw (h, f, holds-self p) at (o p))
-orderly-kept s e t (Local {p} h) o = keep s p _ o (rw h at (o p))
+orderly-kept s e t (Read {p} {v = v} {to = to} {rest = rest} c h) o = keep s p _ o (rw (received-todo (processor s p) rest to v) (rw h at (o p)))
+orderly-kept s e t (Write {p} c h) o = keep s p _ o (rw h at (o p))
+orderly-kept s e t (Drain {p} c h) o = keep s p _ o (o p)
+orderly-kept s e t (Fence {p} c h) o = keep s p _ o (rw h at (o p))
+orderly-kept s e t (Lock {p} c h f) o = take s p _ (not-idle _ _ _ h) o f (rw (h, f) at (o p))
+orderly-kept s e t (Unlock {p} c h f) o = give s p _ (not-idle _ _ _ h) o f (rw (h, f, holds-self p) at (o p))
+orderly-kept s e t (Local {p} c h) o = keep s p _ o (rw h at (o p))

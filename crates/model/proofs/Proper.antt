@@ -59,13 +59,13 @@ of-processor k p row a b c = record {
 
 event-proper : (s : Machine) (e : Event) (t : Machine) → Allowed s e t → e .processor < processors → e .location < locations → Proper stepUses e
 unfolding stepUses
-event-proper s e t (Read {p} {x} {v} h n u) a b = of-memory 1 p x v refl (omega arith) (omega arith) a b
-event-proper s e t (Write {p} {x} {v} h i) a b = of-memory 2 p x v refl (omega arith) (omega arith) a b
-event-proper s e t (Drain {p} {x} {v} n h) a b = of-memory 3 p x v refl (omega arith) (omega arith) a b
-event-proper s e t (Fence {p} h w) a b = of-processor 4 p refl (omega arith) (omega arith) a
-event-proper s e t (Lock {p} h f w) a b = of-processor 5 p refl (omega arith) (omega arith) a
-event-proper s e t (Unlock {p} h f w) a b = of-processor 6 p refl (omega arith) (omega arith) a
-event-proper s e t (Local {p} h) a b = of-processor 7 p refl (omega arith) (omega arith) a
+event-proper s e t (Read {p} {x} {v} c h) a b = of-memory 1 p x v refl (omega arith) (omega arith) a b
+event-proper s e t (Write {p} {x} {v} c h) a b = of-memory 2 p x v refl (omega arith) (omega arith) a b
+event-proper s e t (Drain {p} {x} {v} c h) a b = of-memory 3 p x v refl (omega arith) (omega arith) a b
+event-proper s e t (Fence {p} c h) a b = of-processor 4 p refl (omega arith) (omega arith) a
+event-proper s e t (Lock {p} c h f) a b = of-processor 5 p refl (omega arith) (omega arith) a
+event-proper s e t (Unlock {p} c h f) a b = of-processor 6 p refl (omega arith) (omega arith) a
+event-proper s e t (Local {p} c h) a b = of-processor 7 p refl (omega arith) (omega arith) a
 
 -- ---- so are all of a run
 
@@ -88,6 +88,11 @@ module _ (Value : ℕ → Type 0) (reduced : (n : ℕ) → Value (n % values)) w
 
 pub run-proper : (table : List ℕ) (entries : List Entry) → Readable table entries → (es : List Event) (s : Machine) → Run (start entries) es s → All (Proper stepUses) es
 run-proper table entries r es s run = later-proper (λ v. Unit {0}) (λ n. tt) table entries (λ i. tt) r [] es (start entries) s refl run .0
+
+-- a step that is allowed where a run leads is proper
+pub next-proper : (table : List ℕ) (entries : List Entry) → Readable table entries → (es : List Event) (s : Machine) → Run (start entries) es s
+    → (e : Event) (t : Machine) → Allowed s e t → Proper stepUses e
+next-proper table entries r es s run e t a = later-proper (λ v. Unit {0}) (λ n. tt) table entries (λ i. tt) r es (e ∷ []) s t run (t, a, refl) .0 .0
 
 pub later-small : (table : List ℕ) (entries : List Entry) → Bytes table → Readable table entries
     → (es fs : List Event) (s u : Machine) → Run (start entries) es s → Run s fs u → All Small fs

@@ -16,7 +16,8 @@ use Rattle.model.specs.Reading.{any, givesMemory, givesRegister, again}
 use Rattle.model.proofs.Bools.{one, false-true, and-left, and-right}
 use Rattle.model.specs.Lists.{All}
 use Rattle.model.proofs.Entries.{again-test}
-use Rattle.model.proofs.Refusals.{fails, passes-proper, passes-once, passes-few}
+use Rattle.model.proofs.Bools.{fails}
+use Rattle.model.proofs.Refusals.{passes-proper, passes-once, passes-few}
 
 -- ---- counting
 

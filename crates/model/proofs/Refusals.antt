@@ -12,24 +12,9 @@ use Rattle.model.specs.Table.{Late, Twice, Crowded, Refuses}
 use Rattle.model.specs.Tests.{first, unknown, tooLarge, notZero}
 use Rattle.model.specs.Reading.{late, again, crowded, tableTests}
 use Rattle.model.proofs.Tests.{some-inj, none-some}
+use Rattle.model.proofs.Bools.{met, not-met, failed, fails}
 use Rattle.model.proofs.Fields.{known-test, range-test, zero-test}
 use Rattle.model.proofs.Entries.{late-test, again-test, crowded-test}
-
--- ---- a test decides a fact, met or not
-
-pub met : {T : Type 0} (b : Bool) → (b ≡ false) ↔ T → ¬ T → b ≡ true
-met true d n = refl
-met false d n = absurd (n (d .0 refl))
-
-pub not-met : {T : Type 0} (b : Bool) → (b ≡ false) ↔ T → b ≡ true → ¬ T
-not-met b d h t = false≢true (sym (d .1 t) ∙ h)
-
-pub failed : {T : Type 0} (b : Bool) → (b ≡ true) ↔ T → b ≡ false → ¬ T
-failed b d h t = false≢true (sym h ∙ d .1 t)
-
-pub fails : {T : Type 0} (b : Bool) → (b ≡ true) ↔ T → ¬ T → b ≡ false
-fails true d n = absurd (n (d .0 refl))
-fails false d n = refl
 
 -- ---- both ways
 

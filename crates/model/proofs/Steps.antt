@@ -1,135 +1,112 @@
--- `step` takes exactly the steps that the rules allow, and a step has one result.
+-- `step` takes the steps that the rules allow, and turns the others down for the first condition that is met; a step has one result.
 use mathlib.Core.Path.{_≡_, refl, sym, ap, _∙_}
 use mathlib.Core.Logic.{_↔_}
-use mathlib.Core.Bool.{Bool, true, false, cond, _&&_}
-use mathlib.Core.Option.{Option, none, some}
+use mathlib.Core.Bool.{true}
+use mathlib.Core.Option.{some}
 use mathlib.Core.List.{List, [], _∷_}
 use Prim.Native.Nat.{ℕ}
 use native.Mathlib.Omega.{arith}
-use lib.Dec.{eqb}
-use Rattle.model.specs.Program.{ProgramStep, read, write, fence, lock, unlock, local}
-use Rattle.model.specs.Machine.{Machine, WaitingWrite, processor, cell, received, withProcessor}
-use Rattle.model.specs.Rules.{Event, R, W, Allowed, Read, Write, Drain, Fence, Lock, Unlock, Local}
-use Rattle.model.specs.Step.{Move, isFree, holds, same, drainMove, nextMove, moveFor, judge, Stepped, took, turned, step, seen}
-use Rattle.model.proofs.Bools.{and-true, and-left, and-right, same-true, same-refl, notBlocked-true, true-notBlocked, isEmpty-true, isFree-true, holds-true, holds-self}
-use Rattle.model.proofs.Sees.{newest-seen, sees-newest}
+use Rattle.model.specs.declared.answer.Condition.{Condition}
+use Rattle.model.specs.declared.answer.Attempt.{Attempt}
+use Rattle.model.specs.declared.answer.Attempt.the-variants.{Taken, Turned}
+use Rattle.model.specs.Fields.{Known}
+use Rattle.model.specs.Kinds.{stepUses}
+use Rattle.model.specs.Program.{ProgramStep, Target, Source, read, write}
+use Rattle.model.specs.Machine.{Machine, processor, cell, issued, received, withProcessor}
+use Rattle.model.specs.Rules.{Event, R, W, Sees, Right, ofRead, ofWrite, ofDrain, conditions, FirstMet, Clear, Allowed, Read, Write, Drain, Fence, Lock, Unlock, Local}
+use Rattle.model.specs.Step.{Move, drainMove, nextMove, moveFor, met, judged, Stepped, took, turned, steppedOf, afterMove, step, seen}
+use Rattle.model.proofs.Sees.{sees-newest}
+use Rattle.model.proofs.Conditions.{taken-clear, turned-first, is-right}
 
 pub took-inj : {s t : Machine} → took s ≡ took t → s ≡ t
 took-inj {s} {t} h = cc
 
-pub turned-took {ℓ} : {A : Type ℓ} {n : ℕ} {t : Machine} → turned n ≡ took t → A
-turned-took {A} {n} {t} h = let z : _≡_ {A = ℕ} 0 1 = cc in absurd (omega arith)
+pub turned-took {ℓ} : {A : Type ℓ} {c : Condition} {t : Machine} → turned c ≡ took t → A
+turned-took {A} {c} {t} h = let z : _≡_ {A = ℕ} 0 1 = cc in absurd (omega arith)
 
--- ---- from the function to the rules
+turned-inj : {c d : Condition} → turned c ≡ turned d → c ≡ d
+turned-inj {c} {d} h = cc
 
--- what a move offers is allowed, if it says so
-abbrev Sound : Machine → Option Move → Type 0
-Sound s none = Unit {0}
-Sound s (some m) = m .allowed ≡ true → Allowed s (m .event) (m .after)
+-- ---- what an allowed step is known to have
 
-drain-sound : (s : Machine) (p : ℕ) (ws : List WaitingWrite) → processor s p .waiting ≡ ws → Sound s (drainMove s p ws)
-unfolding drainMove
-drain-sound s p [] h = tt
-drain-sound s p (w ∷ ws) h = λ a. Drain (notBlocked-true s p a) h
+pub allowed-clear : (s : Machine) (e : Event) (t : Machine) → Allowed s e t → Clear s e
+allowed-clear s e t (Read c h) = c
+allowed-clear s e t (Write c h) = c
+allowed-clear s e t (Drain c h) = c
+allowed-clear s e t (Fence c h) = c
+allowed-clear s e t (Lock c h f) = c
+allowed-clear s e t (Unlock c h f) = c
+allowed-clear s e t (Local c h) = c
 
-next-sound : (s : Machine) (p : ℕ) (todo : List ProgramStep) → processor s p .todo ≡ todo → Sound s (nextMove s p todo)
-unfolding nextMove
-next-sound s p [] h = tt
-next-sound s p (read x t ∷ rest) h = λ a. Read h (notBlocked-true s p a) (newest-seen (processor s p .waiting) x (cell s x))
-next-sound s p (write x w ∷ rest) h = λ a. Write h refl
-next-sound s p (fence ∷ rest) h = λ a. Fence h (isEmpty-true _ a)
-next-sound s p (lock ∷ rest) h = λ a. Lock h (isFree-true _ (and-left _ _ a)) (isEmpty-true _ (and-right (isFree (s .holder)) _ a))
-next-sound s p (unlock ∷ rest) h = λ a. Unlock h (holds-true _ p (and-left _ _ a)) (isEmpty-true _ (and-right (holds (s .holder) p) _ a))
-next-sound s p (local r v ∷ rest) h = λ a. Local h
+allowed-known : (s : Machine) (e : Event) (t : Machine) → Allowed s e t → Known stepUses e
+unfolding stepUses
+allowed-known s e t (Read c h) = omega arith
+allowed-known s e t (Write c h) = omega arith
+allowed-known s e t (Drain c h) = omega arith
+allowed-known s e t (Fence c h) = omega arith
+allowed-known s e t (Lock c h f) = omega arith
+allowed-known s e t (Unlock c h f) = omega arith
+allowed-known s e t (Local c h) = omega arith
 
-move-sound : (s : Machine) (e : Event) → Sound s (moveFor s e)
-unfolding moveFor
-move-sound s e = go (eqb (e .kind) 3)
-  where
-    go : (b : Bool) → Sound s (cond b (drainMove s (e .processor) (processor s (e .processor) .waiting)) (nextMove s (e .processor) (processor s (e .processor) .todo)))
-    go true = drain-sound s (e .processor) _ refl
-    go false = next-sound s (e .processor) _ refl
+-- the value of a read that is right, and of a write
+right-seen : (s : Machine) (e : Event) → Right s e → e .kind ≡ 1 → Sees (processor s (e .processor) .waiting) (e .location) (cell s (e .location)) (e .value)
+right-seen s e (ofRead h u) k = u
+right-seen s e (ofWrite h i) k = absurd (omega arith)
+right-seen s e (ofDrain h) k = absurd (omega arith)
 
-judge-sound : (s : Machine) (e : Event) (o : Option Move) (t : Machine) → Sound s o → judge e o ≡ took t → Allowed s e t
-unfolding judge
-judge-sound s e none t h j = turned-took j
-judge-sound s e (some m) t h j = go (same e (m .event) && m .allowed) refl j
-  where
-    go : (b : Bool) → same e (m .event) && m .allowed ≡ b → cond b (took (m .after)) (turned 11) ≡ took t → Allowed s e t
-    go true c j′ = rw (same-true e (m .event) (and-left _ _ c), ← (took-inj j′)) (h (and-right (same e (m .event)) _ c))
-    go false c j′ = turned-took j′
+right-issued : (s : Machine) (e : Event) → Right s e → e .kind ≡ 2 → {x : ℕ} {from : Source} {rest : List ProgramStep} → processor s (e .processor) .todo ≡ write x from ∷ rest → issued (processor s (e .processor)) from ≡ e .value
+right-issued s e (ofRead h u) k g = absurd (omega arith)
+right-issued s e (ofWrite {p} {from = from} h i) k {x} {from = f} {rest} g = let same : f ≡ from = let both = sym g ∙ h in cc in ap (issued (processor s p)) same ∙ i
+right-issued s e (ofDrain h) k g = absurd (omega arith)
 
-pub step-allowed : (s : Machine) (e : Event) (t : Machine) → step s e ≡ took t → Allowed s e t
-unfolding step
-step-allowed s e t j = judge-sound s e (moveFor s e) t (move-sound s e) j
+pub read-sees : (s : Machine) (p x v : ℕ) → Clear s (R p x v) → Sees (processor s p .waiting) x (cell s x) v
+unfolding conditions
+read-sees s p x v c = right-seen s (R p x v) (is-right s (R p x v) (omega arith) (c .1 .1 .0)) refl
 
--- ---- and back
+pub write-issues : (s : Machine) (p x v : ℕ) {from : Source} {rest : List ProgramStep} → Clear s (W p x v) → processor s p .todo ≡ write x from ∷ rest → issued (processor s p) from ≡ v
+unfolding conditions
+write-issues s p x v c h = right-issued s (W p x v) (is-right s (W p x v) (omega arith) (c .1 .0)) refl h
 
-judge-yes : (m : Move) → m .allowed ≡ true → judge (m .event) (some m) ≡ took (m .after)
-unfolding judge
-judge-yes m a = rw (and-true (same-refl (m .event)) a)
+-- ---- the move behind an allowed step
 
--- a move that its own event asks for, and that is allowed, is taken
-pub take-move : (s : Machine) (m : Move) → moveFor s (m .event) ≡ some m → m .allowed ≡ true → step s (m .event) ≡ took (m .after)
-unfolding step
-take-move s m o a = ap (judge (m .event)) o ∙ judge-yes m a
-
--- the move behind an allowed step
 pub record Offered (s : Machine) (e : Event) (t : Machine) : Type 0 where
   pub move : Move
   pub asked : moveFor s e ≡ some move
   pub event : move .event ≡ e
-  pub allowed : move .allowed ≡ true
   pub after : move .after ≡ t
 
 pub offered : (s : Machine) (e : Event) (t : Machine) → Allowed s e t → Offered s e t
 unfolding moveFor
-offered s e t (Read {p} {x} {v} {to = to} {rest = rest} h n u) =
-    let v-seen : seen s p x ≡ v = sees-newest (processor s p .waiting) x (cell s x) v u in
+offered s e t (Read {p} {x} {v} {to = to} {rest = rest} c h) =
+    let v-seen : seen s p x ≡ v = sees-newest (processor s p .waiting) x (cell s x) v (read-sees s p x v c) in
     record {
       move = _;
       asked = ap (nextMove s p) h;
       event = ap (R p x) v-seen;
-      allowed = true-notBlocked s p n;
       after = ap (λ (u : ℕ). withProcessor s p (received (processor s p) rest to u)) v-seen;
     }
-offered s e t (Write {p} {x} h v) = record { move = _; asked = ap (nextMove s p) h; event = ap (W p x) v; allowed = refl; after = refl }
-offered s e t (Drain {p} n h) = record { move = _; asked = ap (drainMove s p) h; event = refl; allowed = true-notBlocked s p n; after = refl }
-offered s e t (Fence {p} h w) = record { move = _; asked = ap (nextMove s p) h; event = refl; allowed = rw w; after = refl }
-offered s e t (Lock {p} h f w) = record { move = _; asked = ap (nextMove s p) h; event = refl; allowed = rw (f, w); after = refl }
-offered s e t (Unlock {p} h f w) = record { move = _; asked = ap (nextMove s p) h; event = refl; allowed = rw (f, w) (and-true (holds-self p) refl); after = refl }
-offered s e t (Local {p} h) = record { move = _; asked = ap (nextMove s p) h; event = refl; allowed = refl; after = refl }
+offered s e t (Write {p} {x} {v} c h) = record { move = _; asked = ap (nextMove s p) h; event = ap (W p x) (write-issues s p x v c h); after = refl }
+offered s e t (Drain {p} c h) = record { move = _; asked = ap (drainMove s p) h; event = refl; after = refl }
+offered s e t (Fence {p} c h) = record { move = _; asked = ap (nextMove s p) h; event = refl; after = refl }
+offered s e t (Lock {p} c h f) = record { move = _; asked = ap (nextMove s p) h; event = refl; after = refl }
+offered s e t (Unlock {p} c h f) = record { move = _; asked = ap (nextMove s p) h; event = refl; after = refl }
+offered s e t (Local {p} c h) = record { move = _; asked = ap (nextMove s p) h; event = refl; after = refl }
 
 pub allowed-step : (s : Machine) (e : Event) (t : Machine) → Allowed s e t → step s e ≡ took t
+unfolding step afterMove
 allowed-step s e t a =
     let o = offered s e t a in
-    ap (step s) (sym (o .event)) ∙ take-move s (o .move) (ap (moveFor s) (o .event) ∙ o .asked) (o .allowed) ∙ ap took (o .after)
-
--- ---- the two forms agree
-
-pub steps-exactly : (s : Machine) (e : Event) (t : Machine) → (step s e ≡ took t) ↔ Allowed s e t
-steps-exactly s e t = (step-allowed s e t, allowed-step s e t)
+    (λ j. steppedOf (taken-clear s e (allowed-known s e t a) .1 (allowed-clear s e t a) j) (afterMove s (o .asked j))) ∙ ap took (o .after)
 
 pub one-result : (s : Machine) (e : Event) (t u : Machine) → Allowed s e t → Allowed s e u → t ≡ u
 one-result s e t u a b = took-inj (sym (allowed-step s e t a) ∙ allowed-step s e u b)
 
--- a step that is not taken is turned down with 11
-judge-number : (e : Event) (o : Option Move) (n : ℕ) → judge e o ≡ turned n → n ≡ 11
-unfolding judge
-judge-number e none n h = cc
-judge-number e (some m) n h = go (same e (m .event) && m .allowed) h
-  where
-    go : (b : Bool) → cond b (took (m .after)) (turned 11) ≡ turned n → n ≡ 11
-    go true j = turned-took (sym j)
-    go false j = cc
+-- ---- a step that is turned down
 
-pub turned-number : (s : Machine) (e : Event) (n : ℕ) → step s e ≡ turned n → n ≡ 11
+pub turned-exactly : (s : Machine) (e : Event) → Known stepUses e → (c : Condition) → (step s e ≡ turned c) ↔ FirstMet s e c (conditions (e .kind))
 unfolding step
-turned-number s e n h = judge-number e (moveFor s e) n h
-
-pub turned-exactly : (s : Machine) (e : Event) → (step s e ≡ turned 11) ↔ ((t : Machine) → ¬ Allowed s e t)
-turned-exactly s e = (λ h t a. turned-took (sym h ∙ allowed-step s e t a), go (step s e) refl)
+turned-exactly s e k c = (λ h. turned-first s e k c .0 (go (judged (met s e) (conditions (e .kind))) h), λ f. ap (λ (a : Attempt). steppedOf a (afterMove s (moveFor s e))) (turned-first s e k c .1 f))
   where
-    go : (o : Stepped) → step s e ≡ o → ((t : Machine) → ¬ Allowed s e t) → step s e ≡ turned 11
-    go (took t) h never = absurd (never t (step-allowed s e t h))
-    go (turned n) h never = h ∙ ap turned (turned-number s e n h)
+    go : (a : Attempt) → steppedOf a (afterMove s (moveFor s e)) ≡ turned c → a ≡ Turned c
+    go Taken h = turned-took (sym h)
+    go (Turned d) h = ap Turned (turned-inj h)

@@ -48,13 +48,13 @@ exchanged-registers P (added r) = simp length-set
 
 step-words : (s : Machine) (e : Event) (t : Machine) → Allowed s e t → length (words t) ≡ length (words s)
 unfolding advanced assigned wrote drained withHolder words
-step-words s e t (Read {p} {v = v} {to = to} {rest = rest} h n u) = with-words s p _ (received-registers (processor s p) rest to v)
-step-words s e t (Write {p} {from = from} h v) = with-words s p _ (exchanged-registers (processor s p) from)
-step-words s e t (Drain {p} {x} {v} n h) = cell-words (withProcessor s p _) x v ∙ with-words s p _ refl
-step-words s e t (Fence {p} h w) = with-words s p _ refl
-step-words s e t (Lock {p} h f w) = with-words s p _ refl
-step-words s e t (Unlock {p} h f w) = with-words s p _ refl
-step-words s e t (Local {p} {r} {v} h) = with-words s p _ (length-set (processor s p .registers) r v)
+step-words s e t (Read {p} {v = v} {to = to} {rest = rest} c h) = with-words s p _ (received-registers (processor s p) rest to v)
+step-words s e t (Write {p} {from = from} c h) = with-words s p _ (exchanged-registers (processor s p) from)
+step-words s e t (Drain {p} {x} {v} c h) = cell-words (withProcessor s p _) x v ∙ with-words s p _ refl
+step-words s e t (Fence {p} c h) = with-words s p _ refl
+step-words s e t (Lock {p} c h f) = with-words s p _ refl
+step-words s e t (Unlock {p} c h f) = with-words s p _ refl
+step-words s e t (Local {p} {r} {v} c h) = with-words s p _ (length-set (processor s p .registers) r v)
 
 -- ---- and so does a table's entry
 

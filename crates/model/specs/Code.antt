@@ -8,7 +8,6 @@ use lib.Seq.{slice}
 use Rattle.model.specs.declared.record.Record.{Record}
 use Rattle.model.specs.declared.kind.Role.{Role}
 use Rattle.model.specs.declared.kind.Role.the-variants.{Unknown, InitialMemory, InitialRegister, StoreConstant, StoreRegister, Load, SetRegister, Fence, Exchange, ExchangeAdd}
-use Rattle.model.specs.declared.answer.Refusal.the-variants.{NotAllowed}
 use Rattle.model.specs.declared.answer.Attempt.{Attempt}
 use Rattle.model.specs.declared.answer.Attempt.the-variants.{Taken, Turned}
 use Rattle.model.specs.declared.answer.Verdict.{Verdict}
@@ -21,7 +20,6 @@ use Rattle.model.specs.Kinds.{Entry, initialMemory, initialRegister, ins
 use Rattle.model.specs.Reading.{isInstruction}
 use Rattle.model.specs.Machine.{Processor, Machine, free}
 use Rattle.model.specs.Reply.{numberOf}
-use Rattle.model.specs.Step.{Stepped, took, turned}
 use Rattle.model.specs.Tests.{Test, first, Tested, passed, refused, unless}
 
 -- ---- verdicts
@@ -39,17 +37,7 @@ pub record Gives (v : Verdict) (tests : List Test) (i : ℕ) : Type 0 where
 
 abbrev pub taken : Attempt → Bool
 taken Taken = true
-taken (Turned why) = false
-
--- what the rules say of a step that is allowed, or not
-abbrev pub judged : Bool → Attempt
-judged true = Taken
-judged false = Turned NotAllowed
-
--- an attempt, with the machine that there is to go on with if it is taken
-abbrev pub steppedOf : Attempt → Machine → Stepped
-steppedOf Taken t = took t
-steppedOf (Turned why) t = turned (numberOf why)
+taken (Turned c) = false
 
 -- ---- roles
 

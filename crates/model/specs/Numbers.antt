@@ -4,22 +4,23 @@ use mathlib.Core.List.{List, [], _∷_, _++_}
 use Prim.Native.Nat.{ℕ, _*_, _/_, _≤_, _<_}
 use lib.ListN.{length, drop}
 use Rattle.model.specs.declared.record.Record.{Record}
+use Rattle.model.specs.declared.answer.Condition.{Condition}
 use Rattle.model.specs.Sizes.{resultWords, recordSize}
 use Rattle.model.specs.Record.{records, fileOf}
 use Rattle.model.specs.Fields.{Known, Proper}
 use Rattle.model.specs.Kinds.{Entry, stepUses}
 use Rattle.model.specs.Table.{Refuses, Reads, Whole, Readable, start}
 use Rattle.model.specs.Machine.{Machine}
-use Rattle.model.specs.Rules.{Event, Allowed, Run}
+use Rattle.model.specs.Rules.{Event, FirstMet, conditions, conditionNumber, Run}
 use Rattle.model.specs.Left.{left, Finished, FinishingRun}
 use Rattle.model.specs.Reply.{Reply, done, refuse, words}
 
--- ---- the number under which an event is refused, where the machine is s: tested 9, 10, 11
+-- ---- the number under which an event is refused, where the machine is s: tested 9, 10, and then by its rule
 
 pub data Turns (s : Machine) (e : Event) : ℕ → Type 0 where
   kindUnknown : ¬ Known stepUses e → Turns s e 9
   wrongField : Known stepUses e → ¬ Proper stepUses e → Turns s e 10
-  notAllowed : Proper stepUses e → ((t : Machine) → ¬ Allowed s e t) → Turns s e 11
+  byRule : {c : Condition} → Proper stepUses e → FirstMet s e c (conditions (e .kind)) → Turns s e (conditionNumber c)
 
 -- ---- what is followed, and what stops it
 
@@ -34,7 +35,7 @@ pub record Follows (table trace : List ℕ) (events : List Event) (s : Machine) 
 abbrev pub Behind : List ℕ → List Record → Record → Type 0
 Behind bytes before r = (after : List Record) × (records bytes ≡ before ++ r ∷ after)
 
--- numbers 1 to 11, and their places
+-- numbers 1 to 10 and 14 to 18, and their places
 pub data Stops (table trace : List ℕ) : ℕ → ℕ → Type 0 where
   tableLength : ¬ Whole table → Stops table trace 1 (length table / recordSize)
   tableRecord : {n : ℕ} {entries : List Entry} {r : Record} (before : List Record)

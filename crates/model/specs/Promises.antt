@@ -4,6 +4,7 @@ use mathlib.Core.Logic.{_↔_}
 use mathlib.Core.List.{List, _∷_, _++_}
 use Prim.Native.Nat.{ℕ, _*_, _≤_, _<_}
 use lib.ListN.{length, take, drop}
+use Rattle.model.specs.declared.answer.Condition.{Condition}
 use Rattle.model.specs.Sizes.{resultWords, recordSize}
 use Rattle.model.specs.Lists.{All}
 use Rattle.model.specs.Record.{records, fileOf}
@@ -11,7 +12,7 @@ use Rattle.model.specs.Fields.{Proper}
 use Rattle.model.specs.Kinds.{Entry, stepUses}
 use Rattle.model.specs.Table.{Whole, Readable, start}
 use Rattle.model.specs.Machine.{Machine}
-use Rattle.model.specs.Rules.{Event, Allowed, Run}
+use Rattle.model.specs.Rules.{Event, FirstMet, conditions, conditionNumber, Run}
 use Rattle.model.specs.Left.{left, Finished}
 use Rattle.model.specs.Finish.{completion}
 use Rattle.model.specs.Reply.{Reply, done, refuse, words}
@@ -26,8 +27,8 @@ pub record Lent (room : List ℕ) (r : Reply) : Type 0 where
 
 -- ---- demand 2, on the reply to a check of a readable table and a trace of whole records
 
--- the first i events are a run from the table's start, event i passes 9 and 10, and no step with it is allowed there
-pub record TurnedAt (entries : List Entry) (events : List Event) (i : ℕ) : Type 0 where
+-- the first i events are a run from the table's start, event i passes 9 and 10, and c is the first condition of its rule that is met there
+pub record TurnedAt (entries : List Entry) (events : List Event) (c : Condition) (i : ℕ) : Type 0 where
   pub before : List Event
   pub event : Event
   pub after : List Event
@@ -36,15 +37,15 @@ pub record TurnedAt (entries : List Entry) (events : List Event) (i : ℕ) : Typ
   pub s : Machine
   pub run : Run (start entries) before s
   pub proper : Proper stepUses event
-  pub never : (t : Machine) → ¬ Allowed s event t
+  pub first : FirstMet s event c (conditions (event .kind))
 
 pub record Demand2 (trace room : List ℕ) (entries : List Entry) (r : Reply) : Type 0 where
   -- with room: 0 exactly when the trace is a run to a finished machine, and then the words of that machine
   pub accepts : resultWords ≤ length room → (r .number ≡ 0) ↔ ((s : Machine) × Run (start entries) (records trace) s × Finished s)
   pub reports : resultWords ≤ length room → (s : Machine) → Run (start entries) (records trace) s → Finished s → r ≡ done (length (records trace)) (words s ++ drop resultWords room)
-  -- 12 exactly when it is a run to a machine that is not finished, and 11 at i exactly when it is turned down at i
+  -- 12 exactly when it is a run to a machine that is not finished, and a condition's number at i exactly when it is turned down for it at i
   pub unfinished : (i : ℕ) → (r ≡ refuse 12 i room) ↔ ((s : Machine) × Run (start entries) (records trace) s × ¬ Finished s × (length (records trace) ≡ i))
-  pub turns : (i : ℕ) → (r ≡ refuse 11 i room) ↔ TurnedAt entries (records trace) i
+  pub turns : (c : Condition) (i : ℕ) → (r ≡ refuse (conditionNumber c) i room) ↔ TurnedAt entries (records trace) c i
 
 -- ---- demand 3, on the reply to a finish of a readable table and a trace of whole records that is a run from its start to s; k is `left s`
 
@@ -75,14 +76,21 @@ pub record Demand3 (table trace room : List ℕ) (entries : List Entry) (s : Mac
   pub writes : recordSize * left s ≤ length room → r ≡ done (left s) (fileOf (completion s) ++ drop (recordSize * left s) room)
   pub adds : recordSize * left s ≤ length room → Added table trace entries (left s) (stepsIn r)
 
+-- ---- document 01's number 11 is never given (document 02, order 1)
+
+abbrev pub NotEleven : Reply → Type 0
+NotEleven r = ¬ (r .number ≡ 11)
+
 -- ---- all that is promised of the reply to a check, and to a finish, for every table, trace and room
 
 pub record CheckMeets (table trace room : List ℕ) (r : Reply) : Type 0 where
   pub stated : Checks table trace room r
   pub lent : Lent room r
+  pub notEleven : NotEleven r
   pub demand2 : (entries : List Entry) → Readable table entries → Whole trace → Demand2 trace room entries r
 
 pub record FinishMeets (table trace room : List ℕ) (r : Reply) : Type 0 where
   pub stated : Finishes table trace room r
   pub lent : Lent room r
+  pub notEleven : NotEleven r
   pub demand3 : (entries : List Entry) → Readable table entries → Whole trace → (s : Machine) → Run (start entries) (records trace) s → Demand3 table trace room entries s r

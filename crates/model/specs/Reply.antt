@@ -2,10 +2,11 @@
 use mathlib.Core.List.{List, [], _∷_, _++_}
 use Prim.Native.Nat.{ℕ}
 use Rattle.model.specs.declared.answer.Refusal.{Refusal}
-use Rattle.model.specs.declared.answer.Refusal.the-variants.{TableLength, TableKind, TableRange, TableUnused, InitialLate, CellTwice, Seventeenth, TraceLength, StepKind, StepField, NotAllowed, Unfinished, RoomTooSmall}
+use Rattle.model.specs.declared.answer.Refusal.the-variants.{TableLength, TableKind, TableRange, TableUnused, InitialLate, CellTwice, Seventeenth, TraceLength, StepKind, StepField, StepTurned, Unfinished, RoomTooSmall}
 use Rattle.model.specs.declared.answer.Answer.{Answer}
 use Rattle.model.specs.declared.answer.Answer.the-variants.{Done, Refused}
 use Rattle.model.specs.Machine.{Machine, Processor}
+use Rattle.model.specs.Rules.{conditionNumber}
 
 pub record Reply : Type 0 where
   pub number : ℕ
@@ -40,7 +41,7 @@ numberOf Seventeenth = 7
 numberOf TraceLength = 8
 numberOf StepKind = 9
 numberOf StepField = 10
-numberOf NotAllowed = 11
+numberOf (StepTurned c) = conditionNumber c
 numberOf Unfinished = 12
 numberOf RoomTooSmall = 13
 

@@ -1,9 +1,12 @@
--- When a step is allowed: document 01's seven rules, after Figure 1 of source 004, and runs of allowed steps.
--- Step.antt says the same as a function, and proofs/Steps.antt shows that they agree.
+-- When a step is allowed, or why it is turned down: document 01's seven rules, after Figure 1 of source 004, by document 02's five conditions; and runs of allowed steps.
+-- Step.antt says the same as functions, and proofs/Steps.antt shows that they agree.
 use mathlib.Core.Path.{_≡_}
 use mathlib.Core.List.{List, [], _∷_, _++_}
 use Prim.Native.Nat.{ℕ}
+use lib.ListN.{getD}
 use Rattle.model.specs.declared.record.Record.{Record}
+use Rattle.model.specs.declared.answer.Condition.{Condition}
+use Rattle.model.specs.declared.answer.Condition.the-variants.{AnotherKind, NothingWaits, LockHeld, NotEmpty, NotRight}
 use Rattle.model.specs.Lists.{All}
 use Rattle.model.specs.Program.{ProgramStep, read, write, fence, lock, unlock, local, Target, Source}
 use Rattle.model.specs.Machine.{Machine, WaitingWrite, writeOf, free, held, processor, cell, issued, advanced, assigned, received, wrote, drained, withProcessor, withCell, withHolder}
@@ -37,6 +40,15 @@ U p = event 6 p 0 0
 abbrev pub N : ℕ → Event
 N p = event 7 p 0 0
 
+-- the kind of a program step in a trace
+abbrev pub kindOf : ProgramStep → ℕ
+kindOf (read x to) = 1
+kindOf (write x from) = 2
+kindOf fence = 4
+kindOf lock = 5
+kindOf unlock = 6
+kindOf (local r v) = 7
+
 -- ---- the words of the rules
 
 -- another processor than p holds the lock
@@ -52,29 +64,88 @@ pub data Sees (waiting : List WaitingWrite) (x m : ℕ) : ℕ → Type 0 where
   fromBuffer : {v : ℕ} (older newer : List WaitingWrite) → waiting ≡ older ++ writeOf x v ∷ newer → NoneTo x newer → Sees waiting x m v
   fromMemory : NoneTo x waiting → Sees waiting x m m
 
+-- location and value are the right ones: those of the next read or write, or of the oldest own waiting write
+pub data Right (s : Machine) : Event → Type 0 where
+  ofRead : {p x v : ℕ} {to : Target} {rest : List ProgramStep}
+      → processor s p .todo ≡ read x to ∷ rest → Sees (processor s p .waiting) x (cell s x) v
+      → Right s (R p x v)
+  ofWrite : {p x v : ℕ} {from : Source} {rest : List ProgramStep}
+      → processor s p .todo ≡ write x from ∷ rest → issued (processor s p) from ≡ v
+      → Right s (W p x v)
+  ofDrain : {p x v : ℕ} {newer : List WaitingWrite}
+      → processor s p .waiting ≡ writeOf x v ∷ newer
+      → Right s (D p x v)
+
+-- ---- the five conditions under which a step is turned down, and their numbers
+
+abbrev pub Met : Condition → Machine → Event → Type 0
+-- the program's next step is another kind, or the program has ended
+Met AnotherKind s e = (next : ProgramStep) (rest : List ProgramStep) → processor s (e .processor) .todo ≡ next ∷ rest → ¬ (kindOf next ≡ e .kind)
+-- nothing waits to drain
+Met NothingWaits s e = processor s (e .processor) .waiting ≡ []
+-- another processor holds the lock
+Met LockHeld s e = Blocked s (e .processor)
+-- own buffer not empty
+Met NotEmpty s e = ¬ (processor s (e .processor) .waiting ≡ [])
+-- location or value is not the right one
+Met NotRight s e = ¬ Right s e
+
+abbrev pub conditionNumber : Condition → ℕ
+conditionNumber AnotherKind = 14
+conditionNumber NothingWaits = 18
+conditionNumber LockHeld = 16
+conditionNumber NotEmpty = 17
+conditionNumber NotRight = 15
+
+-- the conditions that each rule has, in the order in which they are tested: by the kind of the step, from 0 on, which is none
+unfoldable pub conditions : ℕ → List Condition
+conditions kind =
+    getD
+    ([]
+    ∷ (AnotherKind ∷ LockHeld ∷ NotRight ∷ [])  -- read
+    ∷ (AnotherKind ∷ NotRight ∷ [])  -- write
+    ∷ (NothingWaits ∷ LockHeld ∷ NotRight ∷ [])  -- drain
+    ∷ (AnotherKind ∷ NotEmpty ∷ [])  -- fence
+    ∷ (AnotherKind ∷ LockHeld ∷ NotEmpty ∷ [])  -- lock
+    ∷ (AnotherKind ∷ NotEmpty ∷ [])  -- unlock
+    ∷ (AnotherKind ∷ [])  -- local
+    ∷ [])
+    kind
+    []
+
+-- c is the first of them that is met
+pub data FirstMet (s : Machine) (e : Event) (c : Condition) : List Condition → Type 0 where
+  here : {cs : List Condition} → Met c s e → FirstMet s e c (c ∷ cs)
+  later : {d : Condition} {cs : List Condition} → ¬ Met d s e → FirstMet s e c cs → FirstMet s e c (d ∷ cs)
+
+-- none of those that the rule of e has is met
+abbrev pub Clear : Machine → Event → Type 0
+Clear s e = All (λ c. ¬ Met c s e) (conditions (e .kind))
+
 -- ---- the rules. `Allowed s e t`: the machine s may take the step e, and is then t
+-- What lock and unlock ask of the holder besides has no number: in a machine that a run reaches it never decides (proofs/Reasons.antt).
 
 pub data Allowed (s : Machine) : Event → Machine → Type 0 where
   Read : {p x v : ℕ} {to : Target} {rest : List ProgramStep}
-      → processor s p .todo ≡ read x to ∷ rest → ¬ Blocked s p → Sees (processor s p .waiting) x (cell s x) v
+      → Clear s (R p x v) → processor s p .todo ≡ read x to ∷ rest
       → Allowed s (R p x v) (withProcessor s p (received (processor s p) rest to v))
   Write : {p x v : ℕ} {from : Source} {rest : List ProgramStep}
-      → processor s p .todo ≡ write x from ∷ rest → issued (processor s p) from ≡ v
+      → Clear s (W p x v) → processor s p .todo ≡ write x from ∷ rest
       → Allowed s (W p x v) (withProcessor s p (wrote (processor s p) rest x from))
   Drain : {p x v : ℕ} {newer : List WaitingWrite}
-      → ¬ Blocked s p → processor s p .waiting ≡ writeOf x v ∷ newer
+      → Clear s (D p x v) → processor s p .waiting ≡ writeOf x v ∷ newer
       → Allowed s (D p x v) (withCell (withProcessor s p (drained (processor s p) newer)) x v)
   Fence : {p : ℕ} {rest : List ProgramStep}
-      → processor s p .todo ≡ fence ∷ rest → processor s p .waiting ≡ []
+      → Clear s (F p) → processor s p .todo ≡ fence ∷ rest
       → Allowed s (F p) (withProcessor s p (advanced (processor s p) rest))
   Lock : {p : ℕ} {rest : List ProgramStep}
-      → processor s p .todo ≡ lock ∷ rest → s .holder ≡ free → processor s p .waiting ≡ []
+      → Clear s (L p) → processor s p .todo ≡ lock ∷ rest → s .holder ≡ free
       → Allowed s (L p) (withHolder (withProcessor s p (advanced (processor s p) rest)) (held p))
   Unlock : {p : ℕ} {rest : List ProgramStep}
-      → processor s p .todo ≡ unlock ∷ rest → s .holder ≡ held p → processor s p .waiting ≡ []
+      → Clear s (U p) → processor s p .todo ≡ unlock ∷ rest → s .holder ≡ held p
       → Allowed s (U p) (withHolder (withProcessor s p (advanced (processor s p) rest)) free)
   Local : {p r v : ℕ} {rest : List ProgramStep}
-      → processor s p .todo ≡ local r v ∷ rest
+      → Clear s (N p) → processor s p .todo ≡ local r v ∷ rest
       → Allowed s (N p) (withProcessor s p (assigned (processor s p) rest r v))
 
 -- ---- the steps `events` lead from s to u, each allowed in turn

@@ -134,23 +134,23 @@ sheet =
     -- 1
     line (checks SB (W 0 x 1 ++ W 1 y 1 ++ R 0 y 0 ++ R 1 x 0 ++ D 0 x 1 ++ D 1 y 1)) (finished 6 (pair 0 0) (pair 0 0) (pair 1 1))
     -- 2
-    ∷ line (checks SB (W 0 x 1 ++ W 1 y 1 ++ R 0 y 1 ++ R 1 x 0 ++ D 0 x 1 ++ D 1 y 1)) (refusedAt 11 2)
+    ∷ line (checks SB (W 0 x 1 ++ W 1 y 1 ++ R 0 y 1 ++ R 1 x 0 ++ D 0 x 1 ++ D 1 y 1)) (refusedAt 15 2)
     -- 3
     ∷ line (checks SB (W 0 x 1 ++ W 1 y 1 ++ R 0 y 0 ++ R 1 x 0 ++ D 0 x 1)) (refusedAt 12 5)
     -- 4
     ∷ line (finishes SB []) (completes 6 (W 0 x 1 ++ D 0 x 1 ++ R 0 y 0 ++ W 1 y 1 ++ D 1 y 1 ++ R 1 x 1))
     -- 5
-    ∷ line (checks SBfenced (W 0 x 1 ++ W 1 y 1 ++ F 0)) (refusedAt 11 2)
+    ∷ line (checks SBfenced (W 0 x 1 ++ W 1 y 1 ++ F 0)) (refusedAt 17 2)
     -- 6
     ∷ line (checks n6 (W 1 y 2 ++ W 0 x 1 ++ R 0 x 1 ++ R 0 y 0 ++ W 1 x 2 ++ D 1 y 2 ++ D 1 x 2 ++ D 0 x 1)) (finished 8 (pair 1 0) (pair 0 0) (pair 1 2))
     -- 7
-    ∷ line (checks n6 (W 1 y 2 ++ W 1 x 2 ++ D 1 x 2)) (refusedAt 11 2)
+    ∷ line (checks n6 (W 1 y 2 ++ W 1 x 2 ++ D 1 x 2)) (refusedAt 15 2)
     -- 8
     ∷ line (checks swap (L 0 ++ R 0 x 0 ++ W 0 x 5 ++ D 0 x 5 ++ U 0)) (finished 5 (pair 0 0) (pair 0 0) (pair 5 0))
     -- 9
-    ∷ line (checks swapBeside (L 0 ++ W 1 x 1 ++ R 1 x 1)) (refusedAt 11 2)
+    ∷ line (checks swapBeside (L 0 ++ W 1 x 1 ++ R 1 x 1)) (refusedAt 16 2)
     -- 10
-    ∷ line (checks (two 11) (L 0 ++ L 1)) (refusedAt 11 1)
+    ∷ line (checks (two 11) (L 0 ++ L 1)) (refusedAt 16 1)
     -- 11
     ∷ line (checks (two 10) (R 0 x 0 ++ R 1 x 0 ++ W 0 x 1 ++ W 1 x 1 ++ D 0 x 1 ++ D 1 x 1)) (finished 6 (pair 0 0) (pair 0 0) (pair 1 0))
     -- 12

@@ -1,22 +1,22 @@
--- The same rules as a function. A move is a step that a processor can come to: its event, whether it is allowed, and the machine after it.
-use mathlib.Core.Bool.{Bool, true, false, cond, _&&_}
+-- The same rules as functions. A move is a step that a processor can come to: its event, and the machine after it.
+use mathlib.Core.Bool.{Bool, true, false, cond, not, _&&_}
 use mathlib.Core.Option.{Option, none, some}
 use mathlib.Core.List.{List, [], _∷_}
 use Prim.Native.Nat.{ℕ}
 use lib.Dec.{eqb}
+use Rattle.model.specs.declared.answer.Condition.{Condition}
+use Rattle.model.specs.declared.answer.Condition.the-variants.{AnotherKind, NothingWaits, LockHeld, NotEmpty, NotRight}
+use Rattle.model.specs.declared.answer.Attempt.{Attempt}
+use Rattle.model.specs.declared.answer.Attempt.the-variants.{Taken, Turned}
 use Rattle.model.specs.Program.{ProgramStep, read, write, fence, lock, unlock, local}
 use Rattle.model.specs.Machine.{Machine, WaitingWrite, Holder, free, held, processor, cell, issued, advanced, assigned, received, wrote, drained, withProcessor, withCell, withHolder}
-use Rattle.model.specs.Rules.{Event, R, W, D, F, L, U, N}
+use Rattle.model.specs.Rules.{Event, R, W, D, F, L, U, N, conditions}
 
 -- ---- tests
 
-unfoldable pub notBlocked : Holder → ℕ → Bool
-notBlocked free p = true
-notBlocked (held q) p = eqb q p
-
-unfoldable pub isFree : Holder → Bool
-isFree free = true
-isFree (held q) = false
+unfoldable pub blocked : Holder → ℕ → Bool
+blocked free p = false
+blocked (held q) p = not (eqb q p)
 
 unfoldable pub holds : Holder → ℕ → Bool
 holds free p = false
@@ -47,60 +47,76 @@ seen s p x = newest (processor s p .waiting) x (cell s x)
 
 pub record Move : Type 0 where
   pub event : Event
-  pub allowed : Bool
   pub after : Machine
 
-abbrev pub move : Event → Bool → Machine → Option Move
-move e b t = some (record { event = e; allowed = b; after = t })
+abbrev pub move : Event → Machine → Option Move
+move e t = some (record { event = e; after = t })
 
 -- processor p drains the oldest of its waiting writes
 unfoldable pub drainMove : Machine → ℕ → List WaitingWrite → Option Move
-unfolding processor drained withProcessor withCell notBlocked
+unfolding processor drained withProcessor withCell
 drainMove s p [] = none
 drainMove s p (w ∷ newer) =
-    move (D p (w .location) (w .value)) (notBlocked (s .holder) p)
-    (withCell (withProcessor s p (drained (processor s p) newer)) (w .location) (w .value))
+    move (D p (w .location) (w .value)) (withCell (withProcessor s p (drained (processor s p) newer)) (w .location) (w .value))
 
 -- processor p takes the first of its program steps
 unfoldable pub nextMove : Machine → ℕ → List ProgramStep → Option Move
-unfolding processor seen issued advanced assigned received wrote withProcessor withHolder notBlocked isFree holds isEmpty
+unfolding processor seen issued advanced assigned received wrote withProcessor withHolder
 nextMove s p [] = none
 nextMove s p (read x to ∷ rest) =
-    move (R p x (seen s p x)) (notBlocked (s .holder) p)
-    (withProcessor s p (received (processor s p) rest to (seen s p x)))
+    move (R p x (seen s p x)) (withProcessor s p (received (processor s p) rest to (seen s p x)))
 nextMove s p (write x from ∷ rest) =
-    move (W p x (issued (processor s p) from)) true
-    (withProcessor s p (wrote (processor s p) rest x from))
+    move (W p x (issued (processor s p) from)) (withProcessor s p (wrote (processor s p) rest x from))
 nextMove s p (fence ∷ rest) =
-    move (F p) (isEmpty (processor s p .waiting))
-    (withProcessor s p (advanced (processor s p) rest))
+    move (F p) (withProcessor s p (advanced (processor s p) rest))
 nextMove s p (lock ∷ rest) =
-    move (L p) (isFree (s .holder) && isEmpty (processor s p .waiting))
-    (withHolder (withProcessor s p (advanced (processor s p) rest)) (held p))
+    move (L p) (withHolder (withProcessor s p (advanced (processor s p) rest)) (held p))
 nextMove s p (unlock ∷ rest) =
-    move (U p) (holds (s .holder) p && isEmpty (processor s p .waiting))
-    (withHolder (withProcessor s p (advanced (processor s p) rest)) free)
+    move (U p) (withHolder (withProcessor s p (advanced (processor s p) rest)) free)
 nextMove s p (local r v ∷ rest) =
-    move (N p) true
-    (withProcessor s p (assigned (processor s p) rest r v))
-
--- ---- a step
-
--- a step is taken, or turned down with a number
-pub data Stepped : Type 0 where
-  took : Machine → Stepped
-  turned : (number : ℕ) → Stepped
+    move (N p) (withProcessor s p (assigned (processor s p) rest r v))
 
 -- the move that an event asks for: a drain, if its kind says so, or else the next program step
 unfoldable pub moveFor : Machine → Event → Option Move
 unfolding drainMove nextMove
 moveFor s e = cond (eqb (e .kind) 3) (drainMove s (e .processor) (processor s (e .processor) .waiting)) (nextMove s (e .processor) (processor s (e .processor) .todo))
 
-unfoldable pub judge : Event → Option Move → Stepped
-unfolding same
-judge e none = turned 11
-judge e (some m) = cond (same e (m .event) && m .allowed) (took (m .after)) (turned 11)
+-- ---- the conditions
+
+-- there is a move, and its event is so
+unfoldable pub isSo : (Event → Bool) → Option Move → Bool
+isSo f none = false
+isSo f (some m) = f (m .event)
+
+unfoldable pub met : Machine → Event → Condition → Bool
+unfolding moveFor isSo same blocked isEmpty processor
+met s e AnotherKind = not (isSo (λ o. eqb (e .kind) (o .kind)) (moveFor s e))
+met s e NothingWaits = isEmpty (processor s (e .processor) .waiting)
+met s e LockHeld = blocked (s .holder) (e .processor)
+met s e NotEmpty = not (isEmpty (processor s (e .processor) .waiting))
+met s e NotRight = not (isSo (same e) (moveFor s e))
+
+-- ---- a step
+
+-- it is turned down for the first of these conditions that is met, or taken
+unfoldable pub judged : (Condition → Bool) → List Condition → Attempt
+judged f [] = Taken
+judged f (c ∷ cs) = cond (f c) (Turned c) (judged f cs)
+
+-- a step is taken, and leads to a machine, or is turned down
+pub data Stepped : Type 0 where
+  took : Machine → Stepped
+  turned : Condition → Stepped
+
+-- an attempt, with the machine that there is to go on with if it is taken
+abbrev pub steppedOf : Attempt → Machine → Stepped
+steppedOf Taken t = took t
+steppedOf (Turned c) t = turned c
+
+unfoldable pub afterMove : Machine → Option Move → Machine
+afterMove s none = s
+afterMove s (some m) = m .after
 
 unfoldable pub step : Machine → Event → Stepped
-unfolding moveFor judge
-step s e = judge e (moveFor s e)
+unfolding moveFor met judged afterMove conditions
+step s e = steppedOf (judged (met s e) (conditions (e .kind))) (afterMove s (moveFor s e))

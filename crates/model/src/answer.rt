@@ -1,3 +1,16 @@
+// Why a step is turned down, in the words of document 02, order 1. specs/Rules.antt says when each is met, for which steps, and gives its number.
+pub enum Condition {
+    // The program's next step is another kind, or the program has ended.
+    AnotherKind,
+    NothingWaits,
+    // By another processor.
+    LockHeld,
+    // The own buffer.
+    NotEmpty,
+    // The location, or the value.
+    NotRight,
+}
+
 // The answer to a call. specs/Reply.antt gives document 01's number and place for each case.
 pub enum Refusal {
     TableLength,
@@ -10,7 +23,7 @@ pub enum Refusal {
     TraceLength,
     StepKind,
     StepField,
-    NotAllowed,
+    StepTurned(Condition),
     Unfinished,
     RoomTooSmall,
 }
@@ -30,5 +43,5 @@ pub enum Verdict {
 // A step is taken, or turned down: why.
 pub enum Attempt {
     Taken,
-    Turned(Refusal),
+    Turned(Condition),
 }

@@ -1,7 +1,21 @@
-// Document 01's numbers.
+// Document 01's numbers, and document 02's.
 ghost use mathlib.Core.Path.{_≡_};
 ghost use Rattle.model.specs.Reply.{numberOf};
+ghost use Rattle.model.specs.Rules.{conditionNumber};
+use crate::answer::Condition;
 use crate::answer::Refusal;
+
+fn condition_number(condition: Condition) -> u64
+    ensures { λ r. ⌜ r ≡ conditionNumber condition ⌝ }
+{
+    match condition {
+        Condition::AnotherKind => 14,
+        Condition::NothingWaits => 18,
+        Condition::LockHeld => 16,
+        Condition::NotEmpty => 17,
+        Condition::NotRight => 15,
+    }
+}
 
 pub fn number(why: Refusal) -> u64
     ensures { λ r. ⌜ r ≡ numberOf why ⌝ }
@@ -17,7 +31,7 @@ pub fn number(why: Refusal) -> u64
         Refusal::TraceLength => 8,
         Refusal::StepKind => 9,
         Refusal::StepField => 10,
-        Refusal::NotAllowed => 11,
+        Refusal::StepTurned(condition) => condition_number(condition),
         Refusal::Unfinished => 12,
         Refusal::RoomTooSmall => 13,
     }

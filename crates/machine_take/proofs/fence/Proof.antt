@@ -1,16 +1,19 @@
-use mathlib.Core.Path.{sym, ap, _∙_}
-use Rattle.model.specs.Code.{judged}
+use mathlib.Core.Path.{sym, _∙_}
+use Rattle.model.specs.Rules.{conditions}
+use Rattle.model.specs.Step.{judged}
 use borrow.Author.Needs.{needs}
 use Rattle.machine_take.proofs.fence.Statement.{statement}
 use Rattle.machine_take.proofs.fence.Tie as tie
 
 returns : tie.Need-returns
+unfolding judged conditions
 returns c =
-    ap judged (sym (c .if1 .taken) ∙ c .before .allowed .ensures)
+    rw (sym (c .before .is-empty .ensures) ∙ c .if1 .taken)
 
 returns-2 : tie.Need-returns-2
+unfolding judged conditions
 returns-2 c =
-    ap judged (sym (c .if1 .left) ∙ c .before .allowed .ensures)
+    rw (sym (c .before .is-empty .ensures) ∙ c .if1 .left)
 
 pub fence-spec : {M : Type 1} → statement M
 fence-spec = tie.close

@@ -1,21 +1,35 @@
-use mathlib.Core.Path.{refl, sym, ap, _∙_}
-use Rattle.model.specs.Code.{judged}
+use mathlib.Core.Path.{refl, sym, _∙_}
+use Rattle.model.specs.Rules.{conditions}
+use Rattle.model.specs.Step.{judged}
 use borrow.Author.Needs.{needs}
 use Rattle.machine_take.proofs.lock.Statement.{statement}
 use Rattle.machine_take.proofs.lock.Tie as tie
 
 returns : tie.Need-returns
+unfolding judged conditions
 returns c =
-    record { says = ap judged (sym (c .if1 .taken) ∙ c .before .allowed .ensures); marksAfter = refl }
+    record { says = rw (sym (c .before .blocked .ensures) ∙ c .if1 .taken); marksAfter = refl }
 
 returns-2 : tie.Need-returns-2
+unfolding judged conditions
 returns-2 c =
-    record { says = ap judged (sym (c .if1 .left) ∙ c .before .allowed .ensures); marksAfter = refl }
+    let free = c .before .before .before in
+    record { says = rw (sym (free .before .blocked .ensures) ∙ free .if1 .left, sym (c .before .is-empty .ensures) ∙ c .if2 .taken); marksAfter = refl }
+
+returns-3 : tie.Need-returns-3
+unfolding judged conditions
+returns-3 c =
+    let free = c .before .before .before in
+    record { says = rw (sym (free .before .blocked .ensures) ∙ free .if1 .left, sym (c .before .is-empty .ensures) ∙ c .if2 .left); marksAfter = refl }
 
 pub lock-spec : {M : Type 1} → statement M
-lock-spec = tie.close
+lock-spec =
+    tie.close
     (tie.spec
+    (λ c. search needs)
+    (λ c κs. search needs)
+    returns
     (λ c κs. search needs)
     (λ c. search needs)
-    returns
-    returns-2)
+    returns-2
+    returns-3)

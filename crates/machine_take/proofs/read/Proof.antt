@@ -1,26 +1,29 @@
-use mathlib.Core.Bool.{_&&_}
-use mathlib.Core.Path.{refl, sym, ap, _∙_}
-use Rattle.model.specs.Code.{judged}
-use Rattle.machine_take.specs.Takes.{names}
+use mathlib.Core.Path.{refl, sym, _∙_}
+use Rattle.model.specs.Rules.{conditions}
+use Rattle.model.specs.Step.{judged}
 use borrow.Author.Needs.{needs}
 use Rattle.machine_take.proofs.read.Statement.{statement}
 use Rattle.machine_take.proofs.read.Tie as tie
 
 returns : tie.Need-returns
+unfolding judged conditions
 returns c =
-    let a = c .before .before .before .before .before .before .before .before .before .before .before .before .before .before .before .args in
-    record {
-      says = ap judged (sym (c .before .before .before .if1 .taken) ∙ (λ j. names (a .e) (a .i .location) (c .before .before .before .before .before .before .before .before .before .seen .ensures j) && c .before .before .before .before .permitted .ensures j));
-      cellsAfter = c .receive .ensures;
-    }
+    record { says = rw (sym (c .before .blocked .ensures) ∙ c .if1 .taken); cellsAfter = refl }
 
 returns-2 : tie.Need-returns-2
+unfolding judged conditions
 returns-2 c =
-    let a = c .before .before .before .before .before .before .before .before .before .before .before .before .args in
-    record {
-      says = ap judged (sym (c .if1 .left) ∙ (λ j. names (a .e) (a .i .location) (c .before .before .before .before .before .before .seen .ensures j) && c .before .permitted .ensures j));
-      cellsAfter = refl;
-    }
+    let tested = c .before .before .before in
+    let look = tested .before .before .before .before in
+    let free = look .before .before .before .before .before in
+    record { says = rw (sym (free .before .blocked .ensures) ∙ free .if1 .left, ← (look .seen .ensures), tested .if2 .taken); cellsAfter = c .receive .ensures }
+
+returns-3 : tie.Need-returns-3
+unfolding judged conditions
+returns-3 c =
+    let look = c .before .before .before .before in
+    let free = look .before .before .before .before .before in
+    record { says = rw (sym (free .before .blocked .ensures) ∙ free .if1 .left, ← (look .seen .ensures), c .if2 .left); cellsAfter = refl }
 
 pub read-spec : {M : Type 1} → statement M
 read-spec =
@@ -28,21 +31,22 @@ read-spec =
     (tie.spec
     (λ c. search needs)
     (λ c. search needs)
-    (λ c. search needs)
-    (λ c. search needs)
-    (λ c. search needs)
-    (λ c. search needs)
-    (λ c. search needs)
-    (λ c. search needs)
-    (λ c. search needs)
-    (λ c. search needs)
-    (λ c. search needs)
-    (λ c κs. search needs)
-    (λ c. search needs)
-    (λ c κs. search needs)
-    (λ c. search needs)
-    (λ c. search needs)
-    (λ c. search needs)
     (λ c κs. search needs)
     returns
-    returns-2)
+    (λ c. search needs)
+    (λ c. search needs)
+    (λ c. search needs)
+    (λ c. search needs)
+    (λ c. search needs)
+    (λ c. search needs)
+    (λ c. search needs)
+    (λ c. search needs)
+    (λ c. search needs)
+    (λ c. search needs)
+    (λ c κs. search needs)
+    (λ c. search needs)
+    (λ c. search needs)
+    (λ c. search needs)
+    (λ c κs. search needs)
+    returns-2
+    returns-3)

@@ -1,16 +1,19 @@
-use mathlib.Core.Path.{refl, sym, ap, _∙_}
-use Rattle.model.specs.Code.{judged}
+use mathlib.Core.Path.{refl, sym, _∙_}
+use Rattle.model.specs.Rules.{conditions}
+use Rattle.model.specs.Step.{judged}
 use borrow.Author.Needs.{needs}
 use Rattle.machine_take.proofs.unlock.Statement.{statement}
 use Rattle.machine_take.proofs.unlock.Tie as tie
 
 returns : tie.Need-returns
+unfolding judged conditions
 returns c =
-    record { says = ap judged (sym (c .if1 .taken) ∙ c .before .allowed .ensures); marksAfter = refl }
+    record { says = rw (sym (c .before .is-empty .ensures) ∙ c .if1 .taken); marksAfter = refl }
 
 returns-2 : tie.Need-returns-2
+unfolding judged conditions
 returns-2 c =
-    record { says = ap judged (sym (c .if1 .left) ∙ c .before .allowed .ensures); marksAfter = refl }
+    record { says = rw (sym (c .before .is-empty .ensures) ∙ c .if1 .left); marksAfter = refl }
 
 pub unlock-spec : {M : Type 1} → statement M
 unlock-spec = tie.close

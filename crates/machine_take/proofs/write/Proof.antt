@@ -1,15 +1,16 @@
-use mathlib.Core.Path.{refl, sym, ap, _∙_}
-use Rattle.model.specs.Code.{judged}
-use Rattle.machine_take.specs.Takes.{names}
+use mathlib.Core.Path.{refl, sym, _∙_}
+use Rattle.model.specs.Rules.{conditions}
+use Rattle.model.specs.Step.{judged}
 use borrow.Author.Needs.{needs}
 use Rattle.machine_take.proofs.write.Statement.{statement}
 use Rattle.machine_take.proofs.write.Tie as tie
 
 returns : tie.Need-returns
+unfolding judged conditions
 returns c =
-    let a = c .before .before .before .before .before .before .before .before .before .before .before .before .before .before .before .args in
+    let tested = c .before .before .before .before .before .before in
     record {
-      says = ap judged (sym (c .before .before .before .before .before .before .if1 .taken) ∙ (λ j. names (a .e) (a .i .location) (c .before .before .before .before .before .before .before .before .issued-by .ensures j)));
+      says = rw (← (tested .before .before .issued-by .ensures), tested .if1 .taken);
       cellsAfter = c .before .before .before .before .exchange .ensures;
       locationsAfter = c .issue .ensures .0;
       valuesAfter = c .issue .ensures .1;
@@ -17,15 +18,9 @@ returns c =
     }
 
 returns-2 : tie.Need-returns-2
+unfolding judged conditions
 returns-2 c =
-    let a = c .before .before .before .before .before .before .before .before .before .args in
-    record {
-      says = ap judged (sym (c .if1 .left) ∙ (λ j. names (a .e) (a .i .location) (c .before .before .issued-by .ensures j)));
-      cellsAfter = refl;
-      locationsAfter = refl;
-      valuesAfter = refl;
-      marksAfter = refl;
-    }
+    record { says = rw (← (c .before .before .issued-by .ensures), c .if1 .left); cellsAfter = refl; locationsAfter = refl; valuesAfter = refl; marksAfter = refl }
 
 pub write-spec : {M : Type 1} → statement M
 write-spec =

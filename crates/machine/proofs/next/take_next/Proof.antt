@@ -1,7 +1,7 @@
 use Rattle.model.specs.Kinds.{stepUses}
 use Rattle.model.specs.Fields.{among}
 use Rattle.machine.proofs.Nexts.{read-next, write-next, fence-next, lock-next, unlock-next, local-next}
-use Rattle.machine.proofs.Propers.{some-kind, low-kind, bare}
+use Rattle.model.proofs.Events.{some-kind, low-kind, bare}
 use mathlib.Core.Path.{_≡_, refl}
 use native.Mathlib.Omega.{arith}
 use borrow.Author.Needs.{needs}

@@ -5,7 +5,7 @@ use Prim.Native.Nat.{_<_, _≤_}
 use lib.ListN.{getD}
 use Rattle.machine_rules.specs.Steps.{stepKind}
 use Rattle.machine_state.specs.Packed.{standsAt, phaseAt, countsIn}
-use Rattle.machine.proofs.Propers.{low-processor}
+use Rattle.model.proofs.Events.{low-processor}
 use Rattle.machine.proofs.Taking.{can-drain, drains-it, at-the-end, below, known-kind, another, may-take, onwards, takes-it, turns-it}
 use Rattle.machine.proofs.step.step.Statement.{statement}
 use Rattle.machine.proofs.step.step.Tie as tie
