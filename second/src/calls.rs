@@ -1,4 +1,4 @@
-//! The two calls: document 01's numbers 8 to 13, and the order of all.
+//! The two calls: the numbers of a trace and of a room, and the order of all.
 
 use crate::kinds::Step;
 use crate::record::{records, Record};
@@ -41,7 +41,7 @@ fn try_finish(table: &[u8], trace: &[u8], room: &mut [u8]) -> Result<usize, Repl
     Ok(k)
 }
 
-/// The run after the whole trace, or the first refusal of 8 to 11.
+/// The run after the whole trace, or the first refusal of it.
 fn follow<'t>(table: &'t Table, trace: &[u8]) -> Result<Run<'t>, Reply> {
     let steps = records(trace);
     if trace.len() % Record::BYTES != 0 {
@@ -57,18 +57,16 @@ fn follow<'t>(table: &'t Table, trace: &[u8]) -> Result<Run<'t>, Reply> {
     Ok(run)
 }
 
-/// Numbers 9 to 11 for one step.
-fn refusal(run: &Run, step: Record) -> Option<u64> {
+/// Numbers 9 and 10 for one step, then 14 to 18.
+pub fn refusal(run: &Run, step: Record) -> Option<u64> {
     let uses = match Step::of(step.kind) {
         Some(kind) => kind.uses(),
         None => return Some(reply::STEP_KIND),
     };
     if step.used_too_large(uses) || step.unused_not_zero(uses) {
         Some(reply::STEP_FIELD)
-    } else if !run.allowed(step) {
-        Some(reply::STEP_NOT_ALLOWED)
     } else {
-        None
+        run.why_not(step)
     }
 }
 

@@ -115,9 +115,9 @@ mod tests {
         write_case(&mut wire, &case).unwrap();
         let head = [1, 0, 0, 0, 1, 0, 0, 0, 2, 0, 0, 0, 4, 0, 0, 0];
         assert_eq!(wire, [&head[..], &[7, 4, 5, 1, 2, 3, 4]].concat());
-        let wire = [11, 0, 0, 0, 0, 0, 0, 0, 2, 1, 0, 0, 0, 0, 0, 0, 9, 8];
+        let wire = [15, 0, 0, 0, 0, 0, 0, 0, 2, 1, 0, 0, 0, 0, 0, 0, 9, 8];
         let answer = read_answer(&mut &wire[..], 2).unwrap();
-        assert_eq!(answer.reply, Reply::new(11, 258));
+        assert_eq!(answer.reply, Reply::new(15, 258));
         assert_eq!(answer.room, [9, 8]);
         assert!(read_answer(&mut &wire[..], 3).is_err());
     }

@@ -53,6 +53,7 @@ fn undamaged(dice: &mut Dice) -> (Vec<Record>, Habit) {
         0 => (tables::largest(dice), habit),
         1 => (tables::locked(dice), habit),
         2..=4 => (buffers::table(dice), Habit::AtLast),
+        5..=9 => (tables::meeting(dice), habit),
         _ => (tables::table(dice), habit),
     }
 }

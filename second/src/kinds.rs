@@ -2,6 +2,9 @@
 
 use crate::record::Field::{self, Location, Processor, Register, Value};
 use crate::record::Record;
+use crate::reply::{
+    ANOTHER_KIND_IS_NEXT, BUFFER_NOT_EMPTY, LOCK_HELD, NOTHING_WAITS, NOT_THE_RIGHT_ONE,
+};
 
 pub const INITIAL_MEMORY: u8 = 1;
 pub const INITIAL_REGISTER: u8 = 2;
@@ -49,7 +52,7 @@ pub fn kind(number: u8) -> Option<Kind> {
     Some(Kind { uses, steps })
 }
 
-#[derive(Clone, Copy, Debug, PartialEq, Eq)]
+#[derive(Clone, Copy, Debug, PartialEq, Eq, PartialOrd, Ord)]
 pub enum Step {
     Read = 1,
     Write = 2,
@@ -61,10 +64,18 @@ pub enum Step {
 }
 
 impl Step {
+    pub const ALL: [Step; 7] = [
+        Step::Read,
+        Step::Write,
+        Step::Drain,
+        Step::Fence,
+        Step::Lock,
+        Step::Unlock,
+        Step::Local,
+    ];
+
     pub fn of(number: u8) -> Option<Step> {
-        use Step::{Drain, Fence, Local, Lock, Read, Unlock, Write};
-        let all = [Read, Write, Drain, Fence, Lock, Unlock, Local];
-        all.into_iter().find(|step| step.number() == number)
+        Step::ALL.into_iter().find(|step| step.number() == number)
     }
 
     pub fn number(self) -> u8 {
@@ -90,6 +101,21 @@ impl Step {
         match self {
             Step::Read | Step::Write | Step::Drain => &[Processor, Location, Value],
             Step::Fence | Step::Lock | Step::Unlock | Step::Local => &[Processor],
+        }
+    }
+
+    /// The conditions of the step's rule in document 01, each by the number that is given where it
+    /// fails. An unlock's "this processor holds the lock" is not among them, since it never decides:
+    /// the holder alone comes to an unlock. Nor can a lock find that its own processor holds it.
+    pub fn tests(self) -> &'static [u64] {
+        match self {
+            Step::Read => &[ANOTHER_KIND_IS_NEXT, LOCK_HELD, NOT_THE_RIGHT_ONE],
+            Step::Write => &[ANOTHER_KIND_IS_NEXT, NOT_THE_RIGHT_ONE],
+            Step::Drain => &[NOTHING_WAITS, LOCK_HELD, NOT_THE_RIGHT_ONE],
+            Step::Fence => &[ANOTHER_KIND_IS_NEXT, BUFFER_NOT_EMPTY],
+            Step::Lock => &[ANOTHER_KIND_IS_NEXT, LOCK_HELD, BUFFER_NOT_EMPTY],
+            Step::Unlock => &[ANOTHER_KIND_IS_NEXT, BUFFER_NOT_EMPTY],
+            Step::Local => &[ANOTHER_KIND_IS_NEXT],
         }
     }
 }

@@ -23,4 +23,5 @@ pub mod search;
 pub mod shown;
 pub mod stated;
 pub mod table;
+pub mod tally;
 pub mod text;

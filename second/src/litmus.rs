@@ -171,8 +171,8 @@ fn fault(test: &Litmus) -> Result<(), String> {
     let mut false_read = None;
     if test.verdict == Verdict::Forbid {
         let (_, place) = nearest(&test.table, &test.condition).ok_or("no trace is nearest")?;
-        if gives.reply != Reply::new(reply::STEP_NOT_ALLOWED, place) {
-            return Err(format!("a nearest trace is refused at {place}"));
+        if gives.reply != Reply::new(reply::NOT_THE_RIGHT_ONE, place) {
+            return Err(format!("a nearest trace is refused with 15 at {place}"));
         }
         false_read = Some(place);
     }
@@ -253,10 +253,13 @@ mod tests {
             forbid p1 EAX 1, p1 EBX 0
             trace
               W0 x1, W0 y1, R1 y1, R1 x0, D0 x1, D0 y1
-            gives refused 11 at 2";
+            gives refused 15 at 2";
         let judged = judge(&read(text).unwrap());
-        assert_eq!(judged.shown, "refused 11 at 2: R1 y1");
-        assert_eq!(judged.fault.unwrap(), "a nearest trace is refused at 5");
+        assert_eq!(judged.shown, "refused 15 at 2: R1 y1");
+        assert_eq!(
+            judged.fault.unwrap(),
+            "a nearest trace is refused with 15 at 5"
+        );
         assert!(judged.verdict == judged.found);
     }
 }

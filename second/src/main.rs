@@ -1,7 +1,7 @@
 //! The commands of the second implementation; bin/ has the ways in.
 
 use second::case::Answer;
-use second::compare::{compare, tally_text};
+use second::compare::compare;
 use second::folder::{to_records, to_text};
 use second::generate;
 use second::listing::listing;
@@ -11,6 +11,7 @@ use second::peer::Peer;
 use second::results::results;
 use second::shown::{show, show_answer};
 use second::stated::{read_cases, Stated};
+use second::tally::tally;
 use std::fs;
 use std::io::Write;
 use std::path::Path;
@@ -21,6 +22,7 @@ const USAGE: &str = "usage: second COMMAND ..
   lists COUNT SEED -- PROGRAM     generated files through the proved program `list` and through this one
   worked FILE.. [-- PROGRAM]      cases whose answers were worked out by hand
   litmus FOLDER [-- PROGRAM]      litmus tests: a table of results
+  counts COUNT SEED               how often generated cases are given each number, and 14 to 18 by the kind of step
   case SEED NUMBER                a generated case as text, with its answer
   list FOLDER                     what the listing program prints
   records FOLDER                  table.txt becomes table.rec and, if it is there, trace.txt trace.rec
@@ -54,6 +56,7 @@ fn run(words: &[&str], program: &[String]) -> Result<String, String> {
         }
         ["worked", _, ..] => worked(&words[1..], peer(program)?),
         ["litmus", folder] => judged(Path::new(folder), peer(program)?),
+        ["counts", count, seed] => Ok(tally(number(count)?, number(seed)?).text()),
         ["case", seed, at] => Ok(generated(number(seed)?, number(at)?)),
         ["list", folder] => Ok(listing(Path::new(folder))),
         ["records", folder] => to_records(Path::new(folder)).map(|()| String::new()),
@@ -83,7 +86,7 @@ fn compared(count: u64, seed: u64, program: &[String]) -> Result<String, String>
     let tally = compare(&mut peer, count, seed)?;
     Ok(format!(
         "{count} cases of seed {seed}: no difference\n{}",
-        tally_text(&tally)
+        tally.text()
     ))
 }
 

@@ -1,4 +1,6 @@
-//! What a call answers: document 01's numbers, each with its place.
+//! What a call answers: the numbers of document 01 and of order 1, each with its place.
+
+use std::ops::RangeInclusive;
 
 #[derive(Clone, Copy, Debug, PartialEq, Eq)]
 pub struct Reply {
@@ -24,9 +26,18 @@ pub const SEVENTEENTH_INSTRUCTION: u64 = 7;
 pub const TRACE_LENGTH: u64 = 8;
 pub const STEP_KIND: u64 = 9;
 pub const STEP_FIELD: u64 = 10;
-pub const STEP_NOT_ALLOWED: u64 = 11;
 pub const UNFINISHED: u64 = 12;
 pub const ROOM_TOO_SMALL: u64 = 13;
+pub const ANOTHER_KIND_IS_NEXT: u64 = 14;
+pub const NOT_THE_RIGHT_ONE: u64 = 15;
+pub const LOCK_HELD: u64 = 16;
+pub const BUFFER_NOT_EMPTY: u64 = 17;
+pub const NOTHING_WAITS: u64 = 18;
 
-/// How many numbers there are.
-pub const NUMBERS: usize = 14;
+/// Why a step is turned down.
+pub const OF_A_STEP: RangeInclusive<u64> = ANOTHER_KIND_IS_NEXT..=NOTHING_WAITS;
+
+/// All numbers there are. 11 is given no more: since order 1 the last five stand in its place.
+pub fn numbers() -> impl Iterator<Item = u64> {
+    (DONE..=STEP_FIELD).chain(UNFINISHED..=NOTHING_WAITS)
+}

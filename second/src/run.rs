@@ -4,6 +4,7 @@
 
 use crate::kinds::{self, Step};
 use crate::record::{processors, Record, LOCATIONS, PROCESSORS, REGISTERS};
+use crate::reply;
 use crate::table::Table;
 
 /// Words of a result: all registers, then memory.
@@ -36,22 +37,27 @@ impl<'t> Run<'t> {
         self.steps.pop();
     }
 
-    /// Document 01's "When a step is allowed", for a record that passes 9 and 10.
-    pub fn allowed(&self, step: Record) -> bool {
+    /// Why a record that passes 9 and 10 is turned down: order 1's tests, in their order, of which
+    /// a step is put to those that its rule has. None for a step that is allowed.
+    pub fn why_not(&self, step: Record) -> Option<u64> {
         let processor = step.processor;
-        let next = || self.next(processor) == Some(step);
-        let empty = || self.oldest(processor).is_none();
-        let blocked = || self.holder().unwrap_or(processor) != processor;
-        match Step::of(step.kind) {
-            Some(Step::Read) => next() && !blocked(),
-            Some(Step::Write) => next(),
-            Some(Step::Drain) => !blocked() && self.oldest(processor) == Some(step),
-            Some(Step::Fence) => next() && empty(),
-            Some(Step::Lock) => next() && self.holder().is_none() && empty(),
-            Some(Step::Unlock) => next() && self.holder() == Some(processor) && empty(),
-            Some(Step::Local) => next(),
-            None => false,
-        }
+        let (next, oldest) = (self.next(processor), self.oldest(processor));
+        let another_kind = next.map_or(true, |next| next.kind != step.kind);
+        let right = [next, oldest].contains(&Some(step));
+        let tests = [
+            (reply::ANOTHER_KIND_IS_NEXT, another_kind),
+            (reply::NOTHING_WAITS, oldest.is_none()),
+            (reply::LOCK_HELD, self.blocked(processor)),
+            (reply::BUFFER_NOT_EMPTY, oldest.is_some()),
+            (reply::NOT_THE_RIGHT_ONE, !right),
+        ];
+        let own = Step::of(step.kind).map_or(&[][..], Step::tests);
+        let failed = |&(number, fails)| (fails && own.contains(&number)).then_some(number);
+        tests.iter().find_map(failed)
+    }
+
+    pub fn allowed(&self, step: Record) -> bool {
+        self.why_not(step).is_none()
     }
 
     /// Every step allowed now: processors in order, drain first.
@@ -113,6 +119,11 @@ impl<'t> Run<'t> {
         }
     }
 
+    /// Another processor holds the lock.
+    pub fn blocked(&self, processor: u8) -> bool {
+        self.holder().map_or(false, |holder| holder != processor)
+    }
+
     /// Registers, processor by processor, then memory.
     pub fn cells(&self) -> [u32; CELLS] {
         let registers = processors().flat_map(|processor| self.registers(processor).0);
@@ -135,7 +146,7 @@ impl<'t> Run<'t> {
     }
 
     /// The drain that the processor's oldest waiting write asks for.
-    fn oldest(&self, processor: u8) -> Option<Record> {
+    pub fn oldest(&self, processor: u8) -> Option<Record> {
         let write = self.waiting_writes(processor).next()?;
         Some(Step::Drain.by(processor, write.location, write.value))
     }

@@ -98,7 +98,7 @@ finish room 2
 table
 trace
   F0
-gives refused 11 at 0
+gives refused 14 at 0
 ";
 
     #[test]
@@ -122,9 +122,9 @@ gives refused 11 at 0
         let found = show_answer(case, &answer);
         let but = "# but bytes 96 to 96 of the room are 00, not ab\n";
         assert_eq!(found, format!("gives finished 3: p3 EDX 7, x 1\n{but}"));
-        answer.reply = Reply::new(reply::STEP_NOT_ALLOWED, 2);
+        answer.reply = Reply::new(reply::BUFFER_NOT_EMPTY, 2);
         assert!(
-            show_answer(case, &answer).starts_with("gives refused 11 at 2\n# but bytes 0 to 96")
+            show_answer(case, &answer).starts_with("gives refused 17 at 2\n# but bytes 0 to 96")
         );
         answer.reply = Reply {
             number: reply::DONE,

@@ -7,7 +7,7 @@
 //!   p0 store x 1
 //! trace
 //!   W0 x1, D0 x1
-//! gives finished 2: x 1           # or: gives written 1: D0 x1; or: gives refused 11 at 2
+//! gives finished 2: x 1           # or: gives written 1: D0 x1; or: gives refused 15 at 2
 //! ```
 //!
 //! The room is words for checking and bytes for finishing. It is filled with marks, or with the
@@ -227,7 +227,7 @@ room
 table
 trace
   F0
-gives refused 11 at 0
+gives refused 14 at 0
 ";
 
     #[test]
@@ -276,7 +276,7 @@ gives refused 11 at 0
             "line 3: a room has at most 1048576 bytes"
         );
         assert_eq!(
-            wrong("refused 11", "refused 0"),
+            wrong("refused 14", "refused 0"),
             "line 26: not understood: gives refused 0 at 0"
         );
     }

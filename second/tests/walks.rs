@@ -3,11 +3,12 @@
 use second::calls::{check, finish};
 use second::dice::Dice;
 use second::kinds::Step;
-use second::record::{bytes, Record};
+use second::record::{bytes, processors, Record};
 use second::reply::{self, Reply};
 use second::run::{Run, CELLS};
 use second::table::{self, Table};
 use second::text::table_bytes;
+use std::collections::BTreeSet;
 
 const TABLES: [&str; 5] = [
     "p0 store x 1, p0 load EAX y, p1 store y 1, p1 load EBX x",
@@ -112,6 +113,22 @@ fn moves_are_all_that_is_allowed() {
     }
 }
 
+#[test]
+fn the_holder_alone_comes_to_an_unlock_and_comes_to_no_lock() {
+    let dice = &mut Dice::new(1, 5);
+    for (_, table) in tables() {
+        let mut run = Run::new(&table);
+        while !run.finished() {
+            for next in processors().filter_map(|processor| run.next(processor)) {
+                let holds = run.holder() == Some(next.processor);
+                assert!(holds || !Step::Unlock.is(&next));
+                assert!(!holds || !Step::Lock.is(&next));
+            }
+            wander(&mut run, dice);
+        }
+    }
+}
+
 /// Records with a kind up to the highest, mostly well formed; perhaps a rest.
 fn noise(dice: &mut Dice, highest: usize) -> Vec<u8> {
     let length = dice.below(40);
@@ -126,12 +143,12 @@ fn noise(dice: &mut Dice, highest: usize) -> Vec<u8> {
 #[test]
 fn any_bytes_get_an_answer() {
     let dice = &mut Dice::new(1, 4);
-    let mut seen = [false; reply::NUMBERS];
+    let mut seen = BTreeSet::new();
     for _ in 0..20_000 {
         let (table, trace) = (noise(dice, 12), noise(dice, 8));
         let mut room = vec![7; dice.below(2 * CELLS)];
         let checked = check(&table, &trace, &mut room);
-        seen[checked.number as usize] = true;
+        seen.insert(checked.number);
         assert!(checked.number == reply::DONE || room.iter().all(|&word| word == 7));
         let finished = finish(&table, &trace, &mut [0; 2560]);
         match checked.number {
@@ -141,6 +158,9 @@ fn any_bytes_get_an_answer() {
             _ => assert_eq!(finished, checked),
         }
     }
-    seen[reply::SEVENTEENTH_INSTRUCTION as usize] = true; // these tables are too short for it
-    assert_eq!(seen, [true; reply::NUMBERS]);
+    // Too short for a seventeenth instruction, too wild for what lock and buffer stop.
+    for number in [7, 16, 17] {
+        assert!(seen.insert(number));
+    }
+    assert_eq!(seen, reply::numbers().collect());
 }

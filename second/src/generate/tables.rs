@@ -31,6 +31,13 @@ const FEW_KINDS: [u8; 5] = [
     kinds::LOCKED_EXCHANGE_AND_ADD,
 ];
 
+/// What is stopped while writes wait.
+const STOPPING_KINDS: [u8; 3] = [
+    kinds::FENCE,
+    kinds::LOCKED_EXCHANGE,
+    kinds::LOCKED_EXCHANGE_AND_ADD,
+];
+
 const LOCKED_KINDS: [u8; 2] = [kinds::LOCKED_EXCHANGE, kinds::LOCKED_EXCHANGE_AND_ADD];
 
 /// What a table has in use: few processors, registers and locations, so that processors meet.
@@ -73,6 +80,27 @@ pub fn locked(dice: &mut Dice) -> Vec<Record> {
         ..ALL
     };
     filled(dice, in_use, INSTRUCTIONS)
+}
+
+/// Processors meet at the lock while writes wait: each stores, has a lock or a fence, and goes on.
+pub fn meeting(dice: &mut Dice) -> Vec<Record> {
+    let in_use = InUse {
+        processors: dice.pick(&[2, 2, 3]),
+        locations: dice.pick(&[1, 2, 3]),
+        ..ALL
+    };
+    let mut programs = Vec::new();
+    for processor in 0..in_use.processors as u8 {
+        let mut kinds = vec![kinds::STORE_CONSTANT; 1 + dice.below(2)];
+        kinds.push(dice.pick(&STOPPING_KINDS));
+        kinds.push(dice.pick(&ALL_KINDS));
+        let instruction = |kind| Record {
+            processor,
+            ..record(dice, kind, in_use)
+        };
+        programs.push(kinds.into_iter().map(instruction).collect());
+    }
+    joined(dice, in_use, programs)
 }
 
 /// Each processor that is in use has at most so many instructions.

@@ -1,114 +1,161 @@
 //! Steps that look right.
 
+use crate::calls::refusal;
 use crate::dice::Dice;
 use crate::kinds::Step;
-use crate::record::{processors, Record};
+use crate::record::{processors, Record, LOCATIONS};
 use crate::run::Run;
-use crate::table;
-use std::collections::BTreeSet;
+use crate::table::{self, Table};
 
-/// Somewhere a step that looks right: it could be taken if one rule were left out.
+/// Somewhere a step that looks right and is turned down.
 pub fn tempted(dice: &mut Dice, table: &[u8], steps: &mut Vec<Record>) {
-    let table = match table::read(table) {
-        Ok(table) => table,
+    let found = match table::read(table) {
+        Ok(table) => temptations(dice, &table, steps),
         Err(_) => return,
     };
-    let mut run = Run::new(&table);
-    let mut found: Vec<(Looks, Tempting)> = Vec::new();
-    for (place, &step) in steps.iter().enumerate() {
-        found.extend(temptations(&mut run, place));
-        run.take(step);
-    }
-    // A rare look is as likely as a common one, and reads come first: most rules are about them.
-    let looks: BTreeSet<Looks> = found.iter().map(|(looks, _)| *looks).collect();
-    let is_read = |looks: &Looks| looks.kind == Step::Read.number();
-    let (reads, others): (Vec<Looks>, Vec<Looks>) = looks.iter().partition(|looks| is_read(looks));
-    let first = if dice.one_in(3) {
-        None
-    } else {
-        dice.find(&reads)
-    };
-    let wanted = first.or_else(|| dice.find(&others));
-    found.retain(|(looks, _)| Some(*looks) == wanted);
-    if let Some((_, Tempting { place, lock, step })) = dice.find(&found) {
-        let rest = steps.split_off(place);
-        steps.extend(lock);
-        steps.push(step);
+    if let Some(tempting) = one(dice, found) {
+        let rest = steps.split_off(tempting.place);
+        steps.extend(tempting.lock);
+        steps.push(tempting.step);
         steps.extend(rest.iter().take(dice.below(3)));
     }
 }
 
-/// A step that looks right at a place of a trace, perhaps after a processor has taken the lock there.
+/// A step that is turned down at a place of a trace, perhaps after a lock that is taken there.
 #[derive(Clone, Copy)]
 struct Tempting {
     place: usize,
     lock: Option<Record>,
     step: Record,
+    looks: Looks,
 }
 
-/// What a step that looks right looks like.
-#[derive(Clone, Copy, PartialEq, Eq, PartialOrd, Ord)]
+/// What there is to see of such a step.
+#[derive(Clone, Copy)]
 struct Looks {
-    kind: u8,
-    /// It is the processor's next program step or its oldest drain, stopped by lock or buffer alone.
-    stopped: bool,
+    kind: Step,
+    /// Why it is turned down.
+    number: u64,
+    blocked: bool,
     /// A write waits in the own buffer; for a read, one to its location.
     waits: bool,
+    /// It is the processor's next program step or oldest drain, stopped by lock or buffer alone.
+    stopped: bool,
 }
 
-/// Those after a run's steps, and those after a lock that could be taken next.
-fn temptations(run: &mut Run, place: usize) -> Vec<(Looks, Tempting)> {
-    let after = |run: &Run, lock: Option<Record>| {
-        let tempting = |(looks, step)| (looks, Tempting { place, lock, step });
-        not_allowed(run)
-            .into_iter()
-            .map(tempting)
-            .collect::<Vec<_>>()
-    };
-    let mut found = Vec::new();
-    for lock in run.moves().into_iter().filter(|step| Step::Lock.is(step)) {
-        run.take(lock);
-        found.extend(after(run, Some(lock)));
-        run.undo();
+const EITHER: [bool; 2] = [false, true];
+
+/// Most tests meet where a processor is blocked.
+const BLOCKED: [bool; 3] = [false, true, true];
+
+/// What fewer traces can have is wanted more often.
+const NUMBERS: [u64; 14] = [14, 14, 15, 15, 15, 16, 16, 16, 16, 16, 17, 17, 17, 18];
+
+/// One of them: what is rare among them is as likely as what is common.
+fn one(dice: &mut Dice, mut found: Vec<Tempting>) -> Option<Tempting> {
+    keep(dice, &mut found, &BLOCKED, |looks| looks.blocked);
+    keep(dice, &mut found, &NUMBERS, |looks| looks.number);
+    keep(dice, &mut found, &Step::ALL, |looks| looks.kind);
+    keep(dice, &mut found, &EITHER, |looks| looks.waits);
+    keep(dice, &mut found, &EITHER, |looks| looks.stopped);
+    dice.find(&found)
+}
+
+/// Keeps those that look like one of what is wanted and is there.
+fn keep<T: Copy + PartialEq>(
+    dice: &mut Dice,
+    found: &mut Vec<Tempting>,
+    wanted: &[T],
+    what: fn(Looks) -> T,
+) {
+    let is = |tempting: &Tempting, wanted: T| what(tempting.looks) == wanted;
+    let there = |wanted: &T| found.iter().any(|tempting| is(tempting, *wanted));
+    let wanted: Vec<T> = wanted.iter().copied().filter(there).collect();
+    if let Some(wanted) = dice.find(&wanted) {
+        found.retain(|tempting| is(tempting, wanted));
     }
-    found.extend(after(run, None));
-    found
 }
 
-/// What is not allowed of each processor's next program step, with every value that is in sight, and
-/// of the drains of all that waits.
-fn not_allowed(run: &Run) -> Vec<(Looks, Record)> {
+/// How many places of a trace are looked at, at most.
+const PLACES: usize = 16;
+
+/// Those at some places of a trace, up to a step that is refused.
+fn temptations(dice: &mut Dice, table: &Table, steps: &[Record]) -> Vec<Tempting> {
+    let places = dice.some(PLACES, (0..=steps.len()).collect());
+    let mut run = Run::new(table);
     let mut found = Vec::new();
-    for processor in processors() {
-        let waiting = run.waiting(processor);
-        let drain = |&(location, value): &(u8, u32)| Step::Drain.by(processor, location, value);
-        let mut steps: Vec<Record> = waiting.iter().map(drain).collect();
-        let oldest = steps.first().copied();
-        let next = run.next(processor);
-        steps.extend(next.iter().flat_map(|&next| in_sight(run, &waiting, next)));
-        for step in steps.into_iter().filter(|&step| !run.allowed(step)) {
-            let reads = Step::Read.is(&step);
-            let looks = Looks {
-                kind: step.kind,
-                stopped: Some(step) == next || Some(step) == oldest,
-                waits: waiting
-                    .iter()
-                    .any(|write| !reads || write.0 == step.location),
-            };
-            found.push((looks, step));
+    for place in 0..=steps.len() {
+        if places.contains(&place) {
+            found.extend(at_place(&mut run, place));
+        }
+        match steps.get(place) {
+            Some(&step) if refusal(&run, step).is_none() => run.take(step),
+            _ => break,
         }
     }
     found
 }
 
-/// The next program step; a read or a write also with the values that wait or that memory holds.
-fn in_sight(run: &Run, waiting: &[(u8, u32)], next: Record) -> Vec<Record> {
-    let mut values = vec![next.value];
-    if Step::Read.is(&next) || Step::Write.is(&next) {
-        let to_it = waiting.iter().filter(|write| write.0 == next.location);
-        values.extend(to_it.map(|write| write.1));
-        values.push(run.memory(next.location));
+/// Those after a run's steps, and those after a lock that could be taken next.
+fn at_place(run: &mut Run, place: usize) -> Vec<Tempting> {
+    let mut found = after(run, place, None);
+    for lock in run.moves().into_iter().filter(|step| Step::Lock.is(step)) {
+        run.take(lock);
+        found.extend(after(run, place, Some(lock)));
+        run.undo();
     }
-    let with = |value| Record { value, ..next };
-    values.into_iter().map(with).collect()
+    found
+}
+
+/// What is turned down of all that is in sight.
+fn after(run: &Run, place: usize, lock: Option<Record>) -> Vec<Tempting> {
+    let steps = processors().flat_map(|processor| in_sight(run, processor));
+    let tempting = |step| {
+        let looks = looks(run, step)?;
+        Some(Tempting {
+            place,
+            lock,
+            step,
+            looks,
+        })
+    };
+    steps.filter_map(tempting).collect()
+}
+
+/// None for a step that is allowed.
+fn looks(run: &Run, step: Record) -> Option<Looks> {
+    let (kind, processor) = (Step::of(step.kind)?, step.processor);
+    let counts = |write: &(u8, u32)| kind != Step::Read || write.0 == step.location;
+    Some(Looks {
+        kind,
+        number: run.why_not(step)?,
+        blocked: run.blocked(processor),
+        waits: run.waiting(processor).iter().any(counts),
+        stopped: [run.next(processor), run.oldest(processor)].contains(&Some(step)),
+    })
+}
+
+/// Each kind of step by the processor. Reads and writes are of its next program step's location,
+/// with that step's value and with all that wait there or that memory holds, and of another
+/// location; drains of what waits and of what does not.
+fn in_sight(run: &Run, processor: u8) -> Vec<Record> {
+    let next = run.next(processor);
+    let (location, value) = next.map_or((0, 0), |next| (next.location, next.value));
+    let other = (location + 1) % LOCATIONS as u8;
+    let in_memory = |location| (location, run.memory(location));
+    let waiting = run.waiting(processor);
+    let mut cells = vec![(location, value), in_memory(location)];
+    cells.extend(waiting.iter().filter(|write| write.0 == location));
+    cells.extend([(other, value), in_memory(other)]);
+    let mut steps = Vec::new();
+    for kind in Step::ALL {
+        let cells = match kind {
+            Step::Read | Step::Write => cells.clone(),
+            Step::Drain => [&waiting[..], &[(location, value)]].concat(),
+            _ => vec![(0, 0)],
+        };
+        let step = |(location, value)| kind.by(processor, location, value);
+        steps.extend(cells.into_iter().map(step));
+    }
+    steps
 }

@@ -1,4 +1,4 @@
-//! Walks of allowed steps, and the damage that makes each of 8 to 12.
+//! Walks of allowed steps, and the damage that makes each number of a trace.
 
 use super::damage::{damage_bytes, damage_record};
 use super::tempting::tempted;
@@ -52,7 +52,7 @@ pub fn damage(dice: &mut Dice, table: &[u8], trace: &mut Vec<u8>) {
     for _ in 0..dice.pick(&[1, 1, 1, 2]) {
         let mut steps = records(trace);
         let at = dice.below(steps.len() + 1);
-        match dice.below(24) {
+        match dice.below(30) {
             0 | 1 => {
                 damage_bytes(dice, trace);
                 continue;
