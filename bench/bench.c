@@ -28,7 +28,10 @@ static void show(const char *what, const uint8_t *bytes, size_t length)
     printf("\n");
 }
 
-static unsigned long answers[14];
+/* All numbers, and the one among them that is not given. */
+enum { NUMBERS = AMBERCELL_NOTHING_WAITS + 1, NOT_GIVEN = 11 };
+
+static unsigned long answers[NUMBERS];
 
 /* Ends the program where the three differ in number, place or a byte of the room. */
 static ambercell_answer same(int finishes, const uint8_t *table, size_t table_bytes, const uint8_t *trace, size_t trace_bytes,
@@ -185,14 +188,14 @@ static size_t random_trace(const uint8_t *table, size_t table_bytes, uint8_t *tr
     size_t length = 0;
     unsigned often = 1 + below(6), tries = below(4) == 0 ? below(100) : 2000;
 
-    if (gcc_check(table, table_bytes, NULL, 0, NULL, 0).number < AMBERCELL_NOT_ALLOWED)
+    if (gcc_check(table, table_bytes, NULL, 0, NULL, 0).number < AMBERCELL_UNFINISHED)
         return 0;
     start(&w, table, table_bytes);
     while (tries-- > 0 && length < TRACE_BYTES) {
         unsigned p = below(4);
         if (!propose(&w, p, below(often) == 0, trace + length))
             continue;
-        if (gcc_check(table, table_bytes, trace, length + 8, NULL, 0).number == AMBERCELL_NOT_ALLOWED)
+        if (gcc_check(table, table_bytes, trace, length + 8, NULL, 0).number >= AMBERCELL_ANOTHER_KIND)
             continue;
         take(&w, p, trace + length);
         length += 8;
@@ -277,8 +280,9 @@ static int agree(void)
         }
     }
     printf("agree");
-    for (int i = 0; i < 14; i++)
-        printf(" %lu", answers[i]);
+    for (int i = 0; i < NUMBERS; i++)
+        if (i != NOT_GIVEN)
+            printf(" %lu", answers[i]);
     printf("\n");
     return 0;
 }

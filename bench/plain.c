@@ -206,46 +206,54 @@ static int empty(const struct processor *p)
     return p->drained == p->issued;
 }
 
-/* Takes the step if it is allowed. */
-static int step(struct machine *m, struct record r)
+/* Takes the step if it is allowed, and answers 0, or else the number of why it is not. */
+static unsigned step(struct machine *m, struct record r)
 {
     struct processor *p = &m->processors[r.processor];
 
     if (r.kind == AMBERCELL_STEP_DRAIN) {
         const struct write *oldest = &p->written[p->drained];
-        if (blocked(m, r.processor) || empty(p) || oldest->location != r.location || oldest->value != r.value)
-            return 0;
+        if (empty(p))
+            return AMBERCELL_NOTHING_WAITS;
+        if (blocked(m, r.processor))
+            return AMBERCELL_LOCK_HELD;
+        if (oldest->location != r.location || oldest->value != r.value)
+            return AMBERCELL_NOT_RIGHT;
         p->drained++;
         m->memory[r.location] = r.value;
-        return 1;
+        return AMBERCELL_DONE;
     }
 
     const struct instruction *i = &p->program[p->at];
     if (p->at == p->instructions || program_steps[i->kind][p->phase] != r.kind)
-        return 0;
+        return AMBERCELL_ANOTHER_KIND;
     switch (r.kind) {
     case AMBERCELL_STEP_READ:
-        if (i->location != r.location || blocked(m, r.processor) || seen(m, p, r.location) != r.value)
-            return 0;
+        if (blocked(m, r.processor))
+            return AMBERCELL_LOCK_HELD;
+        if (i->location != r.location || seen(m, p, r.location) != r.value)
+            return AMBERCELL_NOT_RIGHT;
         read_value(p, i, r.value);
-        return 1;
+        return AMBERCELL_DONE;
     case AMBERCELL_STEP_WRITE:
         if (i->location != r.location || to_issue(p, i) != r.value)
-            return 0;
+            return AMBERCELL_NOT_RIGHT;
         issue(p, i, r.value);
-        return 1;
+        return AMBERCELL_DONE;
     case AMBERCELL_STEP_FENCE:
         if (!empty(p))
-            return 0;
+            return AMBERCELL_BUFFER_NOT_EMPTY;
         break;
     case AMBERCELL_STEP_LOCK:
-        if (m->holder != NOBODY || !empty(p))
-            return 0;
+        if (blocked(m, r.processor))
+            return AMBERCELL_LOCK_HELD;
+        if (!empty(p))
+            return AMBERCELL_BUFFER_NOT_EMPTY;
         m->holder = r.processor;
         break;
-    case AMBERCELL_STEP_UNLOCK:
-        if (m->holder != r.processor || !empty(p))
-            return 0;
+    case AMBERCELL_STEP_UNLOCK: /* who comes to it holds the lock */
+        if (!empty(p))
+            return AMBERCELL_BUFFER_NOT_EMPTY;
         m->holder = NOBODY;
         break;
     case AMBERCELL_STEP_LOCAL:
@@ -253,7 +261,7 @@ static int step(struct machine *m, struct record r)
         break;
     }
     advance(p, i);
-    return 1;
+    return AMBERCELL_DONE;
 }
 
 static ambercell_answer follow(struct machine *m, const uint8_t *trace, size_t bytes)
@@ -269,8 +277,9 @@ static ambercell_answer follow(struct machine *m, const uint8_t *trace, size_t b
         if (r.processor >= PROCESSORS || r.reg != 0
             || (r.kind <= AMBERCELL_STEP_DRAIN ? r.location >= LOCATIONS : r.location != 0 || r.value != 0))
             return answer(AMBERCELL_TRACE_FIELD, i);
-        if (!step(m, r))
-            return answer(AMBERCELL_NOT_ALLOWED, i);
+        unsigned why = step(m, r);
+        if (why != AMBERCELL_DONE)
+            return answer(why, i);
     }
     m->left -= (uint32_t)records; /* each of them was a step of a finished trace */
     return answer(AMBERCELL_DONE, records);

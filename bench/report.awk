@@ -116,7 +116,7 @@ function counted(w,    i, n, more) {
 function fewer(x, y) { return x < y ? x : y }
 
 END {
-    printf "- Agreement: %d calls, the same number, place and room from all three; each of the numbers 0 to 13 at least %d times\n", \
+    printf "- Agreement: %d calls, the same number, place and room from all three; each of the numbers that are given at least %d times\n", \
         calls, fewest
 
     printf "\n### Time\n\nCPU time of one call in nanoseconds, and ambercell's over plain C's: medians of %d layouts, with the range. ", layouts

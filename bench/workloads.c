@@ -167,7 +167,7 @@ static void exchanges(struct workload *w)
 static void refuse(struct workload *w)
 {
     step(w, AMBERCELL_STEP_DRAIN, 0, 0, 1);
-    w->number = AMBERCELL_NOT_ALLOWED;
+    w->number = AMBERCELL_NOTHING_WAITS;
 }
 
 static struct workload *next(const char *name, int finishes)

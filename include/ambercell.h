@@ -69,7 +69,8 @@ enum {
 /*
  * The numbers of an answer, each with its place. The first that applies is given: 1; then the
  * table's records in turn, each tested 2 to 7; then 8; then the trace's records in turn, each
- * tested 9 to 11; then 12; last 13.
+ * tested 9, 10 and then, where the rule of its kind of step has the condition, 14, 18, 16, 17, 15;
+ * then 12; last 13. 11 is not given.
  */
 enum {
     AMBERCELL_DONE = 0, /* place: steps in the trace (check), steps written (finish) */
@@ -84,13 +85,19 @@ enum {
     AMBERCELL_SEVENTEENTH = 7,  /* seventeenth instruction of a processor */
 
     AMBERCELL_TRACE_LENGTH = 8, /* trace length no multiple of 8; place: whole records in it */
-    /* 9 to 11 give the place of a record in the trace, from 0 */
+    /* 9, 10 and 14 to 18 give the place of a record in the trace, from 0 */
     AMBERCELL_TRACE_KIND = 9,   /* step kind unknown */
     AMBERCELL_TRACE_FIELD = 10, /* used field too large, or unused field not zero */
-    AMBERCELL_NOT_ALLOWED = 11, /* step not allowed */
     AMBERCELL_UNFINISHED = 12,  /* trace ends unfinished (check only); place: steps in it */
 
-    AMBERCELL_ROOM_TOO_SMALL = 13 /* place: words (check) or bytes (finish) needed */
+    AMBERCELL_ROOM_TOO_SMALL = 13, /* place: words (check) or bytes (finish) needed */
+
+    /* why a step is not allowed */
+    AMBERCELL_ANOTHER_KIND = 14,     /* the program's next step is another kind, or the program has ended */
+    AMBERCELL_NOT_RIGHT = 15,        /* location or value is not the right one */
+    AMBERCELL_LOCK_HELD = 16,        /* another processor holds the lock */
+    AMBERCELL_BUFFER_NOT_EMPTY = 17, /* own buffer not empty */
+    AMBERCELL_NOTHING_WAITS = 18     /* nothing waits to drain */
 };
 
 /* Rooms that are always large enough. */

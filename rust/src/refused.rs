@@ -1,4 +1,4 @@
-//! Refusals: document 01's numbers, in its words.
+//! Refusals: the numbers of documents 01 and 02, in their words.
 use std::error::Error;
 use std::fmt;
 
@@ -14,7 +14,7 @@ macro_rules! refusals {
             pub(crate) fn of(number: u64) -> Refusal {
                 match number {
                     $($number => Refusal::$name,)*
-                    _ => unreachable!("the library gives numbers 0 to 13"),
+                    _ => unreachable!("the library gives no number {number}"),
                 }
             }
         }
@@ -40,9 +40,13 @@ refusals! {
     TraceLength = 8, "trace length no multiple of 8";
     TraceKind = 9, "step kind unknown";
     TraceField = 10, "used field too large, or unused field not zero";
-    NotAllowed = 11, "step not allowed";
     Unfinished = 12, "trace ends unfinished";
     RoomTooSmall = 13, "lent room too small";
+    AnotherKind = 14, "the program's next step is another kind, or the program has ended";
+    NotRight = 15, "location or value is not the right one";
+    LockHeld = 16, "another processor holds the lock";
+    BufferNotEmpty = 17, "own buffer not empty";
+    NothingWaits = 18, "nothing waits to drain";
 }
 
 /// Why a call was refused, and the place. The room keeps its contents.
@@ -55,7 +59,7 @@ pub struct Refused {
     pub place: usize,
 }
 
-/// As the listing program says it, and why: `refused 11 at 2, step not allowed`.
+/// As the listing program says it, and why: `refused 17 at 2, own buffer not empty`.
 impl fmt::Display for Refused {
     fn fmt(&self, f: &mut fmt::Formatter<'_>) -> fmt::Result {
         let Refused { why, place } = self;

@@ -4,7 +4,10 @@ use crate::answer::Answer;
 use crate::refused::{Refusal, Refused};
 use crate::{CHECK_WORDS, FINISH_BYTES};
 
-const NUMBERS: std::ops::RangeInclusive<u64> = 1..=13;
+/// 11 is given no more.
+fn numbers() -> impl Iterator<Item = u64> {
+    (1..=10).chain(12..=18)
+}
 
 /// The header has this name, and gives it this number.
 fn in_header(name: &str, number: u64) -> bool {
@@ -30,7 +33,7 @@ fn in_c(why: Refusal) -> String {
 
 #[test]
 fn each_number_is_one_refusal_with_the_headers_name() {
-    for number in NUMBERS {
+    for number in numbers() {
         let why = Refusal::of(number);
         assert_eq!(why as u64, number);
         assert!(in_header(&in_c(why), number), "{why:?} is {number}");
@@ -38,14 +41,20 @@ fn each_number_is_one_refusal_with_the_headers_name() {
 }
 
 #[test]
-#[should_panic(expected = "numbers 0 to 13")]
-fn there_is_no_fourteenth() {
-    Refusal::of(14);
+#[should_panic(expected = "no number 11")]
+fn there_is_no_eleventh() {
+    Refusal::of(11);
+}
+
+#[test]
+#[should_panic(expected = "no number 19")]
+fn there_is_no_nineteenth() {
+    Refusal::of(19);
 }
 
 #[test]
 fn each_refusal_has_the_words_of_the_format() {
-    for number in NUMBERS {
+    for number in numbers() {
         let row = format!("| {number} | {}", Refusal::of(number));
         assert!(
             include_str!("../../docs/FORMAT.md")
@@ -59,10 +68,10 @@ fn each_refusal_has_the_words_of_the_format() {
 #[test]
 fn a_refusal_says_its_number_its_place_and_why() {
     let refused = Refused {
-        why: Refusal::NotAllowed,
+        why: Refusal::BufferNotEmpty,
         place: 2,
     };
-    assert_eq!(refused.to_string(), "refused 11 at 2, step not allowed");
+    assert_eq!(refused.to_string(), "refused 17 at 2, own buffer not empty");
 }
 
 #[test]
@@ -76,7 +85,7 @@ fn number_0_is_done_and_any_other_a_refusal() {
     let answer = |number| Answer { number, place: 5 };
     assert!(in_header("DONE", 0));
     assert_eq!(answer(0).result(), Ok(5));
-    for number in NUMBERS {
+    for number in numbers() {
         let why = Refusal::of(number);
         assert_eq!(answer(number).result(), Err(Refused { why, place: 5 }));
     }

@@ -40,7 +40,7 @@ fn line_2_is_refused_and_the_room_kept() {
     let mut room = [7; CHECK_WORDS];
     assert_eq!(
         check(&SB.concat(), &trace, &mut room),
-        refused(Refusal::NotAllowed, 2)
+        refused(Refusal::NotRight, 2)
     );
     assert_eq!(room, [7; CHECK_WORDS]);
 }

@@ -95,6 +95,9 @@ static void table_refusals(void)
 #define SB \
     FILE_OF(RECORD(AMBERCELL_STORE, 0, 0, X, 1), RECORD(AMBERCELL_LOAD, 0, EAX, Y, 0), \
             RECORD(AMBERCELL_STORE, 1, 0, Y, 1), RECORD(AMBERCELL_LOAD, 1, EBX, X, 0))
+/* Two locked exchange-and-adds on x. */
+#define TWO_LOCKED \
+    FILE_OF(RECORD(AMBERCELL_LOCKED_EXCHANGE_ADD, 0, EAX, X, 0), RECORD(AMBERCELL_LOCKED_EXCHANGE_ADD, 1, EAX, X, 0))
 #define LINE_1 FILE_OF(W(0, X, 1), W(1, Y, 1), R(0, Y, 0), R(1, X, 0), D(0, X, 1), D(1, Y, 1))
 #define LINE_2 FILE_OF(W(0, X, 1), W(1, Y, 1), R(0, Y, 1), R(1, X, 0), D(0, X, 1), D(1, Y, 1))
 #define LINE_3 FILE_OF(W(0, X, 1), W(1, Y, 1), R(0, Y, 0), R(1, X, 0), D(0, X, 1))
@@ -108,7 +111,12 @@ static void trace_refusals(void)
     both_refuse("step kind 8", SB, FILE_OF(RECORD(8, 0, 0, 0, 0)), AMBERCELL_TRACE_KIND, 0);
     both_refuse("processor 4", SB, FILE_OF(W(0, X, 1), W(4, X, 1)), AMBERCELL_TRACE_FIELD, 1);
     both_refuse("register of a step", SB, FILE_OF(RECORD(AMBERCELL_STEP_WRITE, 0, 1, X, 1)), AMBERCELL_TRACE_FIELD, 0);
-    both_refuse("line 2", SB, LINE_2, AMBERCELL_NOT_ALLOWED, 2);
+    both_refuse("line 2", SB, LINE_2, AMBERCELL_NOT_RIGHT, 2);
+    both_refuse("read before the write", SB, FILE_OF(R(0, Y, 0)), AMBERCELL_ANOTHER_KIND, 0);
+    both_refuse("drain of nothing", SB, FILE_OF(D(0, X, 1)), AMBERCELL_NOTHING_WAITS, 0);
+    both_refuse("fence while a write waits", FILE_OF(RECORD(AMBERCELL_STORE, 0, 0, X, 1), FENCE(0)),
+                FILE_OF(W(0, X, 1), F(0)), AMBERCELL_BUFFER_NOT_EMPTY, 1);
+    both_refuse("line 10", TWO_LOCKED, FILE_OF(L(0), L(1)), AMBERCELL_LOCK_HELD, 1);
     check("line 3", SB, LINE_3, WORDS, AMBERCELL_UNFINISHED, 5, NULL);
     check("line 3 in no room", SB, LINE_3, 0, AMBERCELL_UNFINISHED, 5, NULL);
 }

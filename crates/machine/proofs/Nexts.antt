@@ -9,13 +9,13 @@ use borrow.Author.Tests.{eq-eqb}
 use Rattle.model.specs.declared.answer.Attempt.{Attempt}
 use Rattle.model.specs.declared.answer.Attempt.the-variants.{Taken, Turned}
 use Rattle.model.specs.declared.answer.Condition.{Condition}
-use Rattle.model.specs.declared.answer.Condition.the-variants.{AnotherKind, NothingWaits, LockHeld, NotEmpty, NotRight}
+use Rattle.model.specs.declared.answer.Condition.the-variants.{AnotherKind, NothingWaits, LockHeld, BufferNotEmpty, NotRight}
 use Rattle.model.specs.declared.record.Record.{Record}
 use Rattle.model.specs.Fields.{Proper}
 use Rattle.model.specs.Kinds.{stepUses}
 use Rattle.model.specs.Rules.{Event, event, conditions}
-use Rattle.model.specs.Code.{instructionOf, actsOf, taken}
-use Rattle.model.specs.Step.{same, newest, judged}
+use Rattle.model.specs.Code.{instructionOf, actsOf, taken, judged}
+use Rattle.model.specs.Step.{same, newest, firstMet}
 use Rattle.model.proofs.Bools.{self}
 use Rattle.machine_rules.specs.Guards.{nobody}
 use Rattle.machine_rules.specs.Offers.{waitingFrom, nextIn}
@@ -60,13 +60,13 @@ module _ (cells locations values marks : List ℕ) (i e : Record) (r : Attempt) 
   tested : (k y w : ℕ) → e .kind ≡ k → event k p y w ≡ nextOf m o k → (right : Bool) → right ≡ names e y w → r ≡ attempted k marks p right → r ≡ attemptedOf m o (nextOf m o (e .kind)) e
   unfolding stateIn
   tested k y w z next right names f =
-      f ∙ (λ j. judged (λ c. met c j) (conditions k)) ∙ (λ j. judged (metOf m o (next j) e) (conditions k)) ∙ (λ j. judged (metOf m o (nextOf m o (sym z j)) e) (conditions (sym z j)))
+      f ∙ (λ j. judged (firstMet (λ c. met c j) (conditions k))) ∙ (λ j. judged (firstMet (metOf m o (next j) e) (conditions k))) ∙ (λ j. judged (firstMet (metOf m o (nextOf m o (sym z j)) e) (conditions (sym z j))))
     where
       met : (c : Condition) → metIn marks p right c ≡ metOf m o (event k p y w) e c
       met AnotherKind = sym (ap not (eq-eqb (e .kind) k z))
       met NothingWaits = λ j. eqb (d-is j) (n-is j)
       met LockHeld = refl
-      met NotEmpty = λ j. not (eqb (d-is j) (n-is j))
+      met BufferNotEmpty = λ j. not (eqb (d-is j) (n-is j))
       met NotRight = ap not (names ∙ same-names e k p y w z refl (no-register e proper))
 
   -- a step of this kind names no location and no value
@@ -79,11 +79,11 @@ module _ (cells locations values marks : List ℕ) (i e : Record) (r : Attempt) 
 
   in-cells : (a : Attempt) (cells' full : List ℕ) → cells' ≡ cond (taken a) full cells → stateIn cells' locations values marks ≡ cond (taken a) (stateIn full locations values marks) m
   in-cells Taken cells' full f = ap (λ (l : List ℕ). stateIn l locations values marks) f
-  in-cells (Turned c) cells' full f = ap (λ (l : List ℕ). stateIn l locations values marks) f
+  in-cells (Turned why) cells' full f = ap (λ (l : List ℕ). stateIn l locations values marks) f
 
   in-marks : (a : Attempt) (marks' full : List ℕ) → marks' ≡ cond (taken a) full marks → stateIn cells locations values marks' ≡ cond (taken a) (stateIn cells locations values full) m
   in-marks Taken marks' full f = ap (λ (l : List ℕ). stateIn cells locations values l) f
-  in-marks (Turned c) marks' full f = ap (λ (l : List ℕ). stateIn cells locations values l) f
+  in-marks (Turned why) marks' full f = ap (λ (l : List ℕ). stateIn cells locations values l) f
 
   module _ (reg : i .register < 4) where
     has : Own o
@@ -115,10 +115,10 @@ module _ (cells locations values marks : List ℕ) (i e : Record) (r : Attempt) 
       where
         go : (a : Attempt) (cs ls vs ks : List ℕ) → stateIn (cond (taken a) cs cells) (cond (taken a) ls locations) (cond (taken a) vs values) (cond (taken a) ks marks) ≡ cond (taken a) (stateIn cs ls vs ks) m
         go Taken cs ls vs ks = refl
-        go (Turned c) cs ls vs ks = refl
+        go (Turned why) cs ls vs ks = refl
 
     pub local-next : e .kind ≡ 7 → Bare e → (cells' : List ℕ) → Assigns cells i e r cells' → TakesNext m i e r (stateIn cells' locations values marks)
-    unfolding nextIn carriedOut stateIn judged conditions
+    unfolding nextIn carriedOut stateIn firstMet conditions
     local-next z b cells' t =
         as-own _
         (record {
@@ -133,7 +133,7 @@ module _ (cells locations values marks : List ℕ) (i e : Record) (r : Attempt) 
     where
       go : (a : Attempt) → m ≡ cond (taken a) m m
       go Taken = refl
-      go (Turned c) = refl
+      go (Turned why) = refl
 
   module _ (l : 0 < length marks) (marks' : List ℕ) where
     -- the holder afterwards is `holder`

@@ -16,16 +16,16 @@ use Rattle.model.specs.Kinds.{tableRows}
 use Rattle.model.specs.Machine as model
 use Rattle.model.specs.Machine.{Processor, processor}
 use Rattle.model.specs.declared.answer.Condition.{Condition}
-use Rattle.model.specs.declared.answer.Condition.the-variants.{AnotherKind, NothingWaits, LockHeld, NotEmpty, NotRight}
+use Rattle.model.specs.declared.answer.Condition.the-variants.{AnotherKind, NothingWaits, LockHeld, BufferNotEmpty, NotRight}
 use Rattle.model.specs.Rules.{Event, event, conditions}
-use Rattle.model.specs.Step.{Move, isEmpty, blocked, same, move, drainMove, nextMove, moveFor, isSo, met, judged, steppedOf, afterMove, step}
+use Rattle.model.specs.Step.{Move, isEmpty, blocked, same, move, drainMove, nextMove, moveFor, isSo, met, firstMet, stepped, afterMove, step}
 use Rattle.model.specs.Code.{Columns, instructionAt, countIn}
 use Rattle.machine.specs.View.{todoIn, processorOf, holderOf, machineOf}
 use Rattle.machine_rules.specs.Steps.{stepsOfKind, stepKind, stepCount}
 use Rattle.machine_rules.specs.Programs.{fetched, Fetched}
 use Rattle.machine_rules.specs.Offers.{nextIn, offeredIn}
 use Rattle.machine.specs.Arrays.{oldestOf, nextOf, offeredOf}
-use Rattle.machine.specs.Next.{metOf, attemptedOf}
+use Rattle.machine.specs.Next.{metOf, foundOf}
 use Rattle.machine.specs.Stores.{isLast, advancedIn, afterEvent}
 use Rattle.machine.specs.Ready.{Own, ReadyAt, Ready}
 use Rattle.machine.proofs.Todo.{stepFor, restAt, none-left, next-left, rest-left}
@@ -149,12 +149,12 @@ module _ (g : Columns) (m : State) (ready : Ready g m) (i : Record) (here : Fetc
     met-is AnotherKind = ap (λ (u : Option Move). not (isSo (λ (u : Event). eqb (e .kind) (u .kind)) u)) (move-is e q) ∙ ap not (offered-so (λ u. eqb (e .kind) (u .kind)) o (λ z. ne-eqb (e .kind) (o .kind) (not-none z)))
     met-is NothingWaits = ap (λ (r : ℕ). isEmpty (processor M r .waiting)) q ∙ empty-is g m ready i own
     met-is LockHeld = ap (blocked (holderOf (m .holder))) q ∙ blocked-is (m .holder) p
-    met-is NotEmpty = ap not (ap (λ (r : ℕ). isEmpty (processor M r .waiting)) q ∙ empty-is g m ready i own)
+    met-is BufferNotEmpty = ap not (ap (λ (r : ℕ). isEmpty (processor M r .waiting)) q ∙ empty-is g m ready i own)
     met-is NotRight = ap (λ (u : Option Move). not (isSo (same e) u)) (move-is e q) ∙ ap not (offered-so (same e) o (λ z. unlike e o (not-none z)))
 
-    pub step-is : step M e ≡ steppedOf (attemptedOf m i o e) (afterMove M (offer g m i o))
+    pub step-is : step M e ≡ stepped (foundOf m i o e) (afterMove M (offer g m i o))
     unfolding step
-    step-is = λ j. steppedOf (judged (λ c. met-is c j) (conditions (e .kind))) (afterMove M (move-is e q j))
+    step-is = λ j. stepped (firstMet (λ c. met-is c j) (conditions (e .kind))) (afterMove M (move-is e q j))
 
   pub offered-after : (o : Event) → 0 < o .kind → afterMove M (offer g m i o) ≡ machineOf g (afterEvent m i o)
   unfolding afterMove

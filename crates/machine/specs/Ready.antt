@@ -7,8 +7,8 @@ use Rattle.model.specs.declared.answer.Attempt.{Attempt}
 use Rattle.model.specs.declared.record.Record.{Record}
 use Rattle.model.specs.Sizes.{processors, registersEach, locations, instructionsEach, phases}
 use Rattle.model.specs.Left.{writes}
-use Rattle.model.specs.Step.{step, steppedOf}
-use Rattle.model.specs.Code.{Columns, instructionAt, countIn, Fits, taken}
+use Rattle.model.specs.Step.{step}
+use Rattle.model.specs.Code.{Columns, instructionAt, countIn, Fits, taken, steppedOf}
 use Rattle.model.specs.Rules.{Event}
 use Rattle.machine_rules.specs.Steps.{stepCount}
 use Rattle.machine.specs.View.{todoIn, machineOf}

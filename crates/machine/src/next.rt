@@ -7,6 +7,10 @@ use machine_rules::program::READ;
 use machine_rules::program::UNLOCK;
 use machine_rules::program::WRITE;
 use machine_state::state::Machine;
+use machine_take::hold;
+use machine_take::local;
+use machine_take::read;
+use machine_take::write;
 use model::answer::Attempt;
 use model::record::Record;
 use model::table::Program;
@@ -27,12 +31,12 @@ pub fn take_next<'a>(
     let p = e.processor as usize;
     let kind = e.kind;
     match kind {
-        READ => machine_take::read(cells, locations, values, marks, i, e),
-        WRITE => machine_take::write(cells, locations, values, marks, i, e),
-        FENCE => machine_take::fence(marks, p),
-        LOCK => machine_take::lock(marks, p),
-        UNLOCK => machine_take::unlock(marks, p),
+        READ => read::read(cells, locations, values, marks, i, e),
+        WRITE => write::write(cells, locations, values, marks, i, e),
+        FENCE => hold::fence(marks, p),
+        LOCK => hold::lock(marks, p),
+        UNLOCK => hold::unlock(marks, p),
         // A local step.
-        _ => machine_take::assign(cells, i, e),
+        _ => local::assign(cells, i, e),
     }
 }

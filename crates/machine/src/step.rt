@@ -8,8 +8,10 @@ use machine_rules::program;
 use machine_rules::program::DRAIN;
 use machine_state::program as programs;
 use machine_state::state::Machine;
+use machine_take::drain;
 use model::answer::Attempt;
 use model::answer::Condition;
+use model::answer::Refusal;
 use model::record::Record;
 use model::table::Program;
 
@@ -30,16 +32,16 @@ pub fn step<'a>(
         e r (stateIn (now (cells .exit)) (now (locations .exit)) (now (values .exit)) (now (marks .exit))) ⌝ }
 {
     if e.kind == DRAIN {
-        return machine_take::drain(cells, locations, values, marks, e);
+        return drain::drain(cells, locations, values, marks, e);
     }
     let p = e.processor as usize;
     let a = marks[Machine::AT + p];
     if programs::count(codes, p) <= a {
-        return Attempt::Turned(Condition::AnotherKind);
+        return Attempt::Turned(Refusal::StepRule(Condition::AnotherKind));
     }
     let i = programs::instruction(codes, constants, p, a);
     if e.kind != program::step_kind(i.kind, marks[Machine::PHASE + p]) {
-        return Attempt::Turned(Condition::AnotherKind);
+        return Attempt::Turned(Refusal::StepRule(Condition::AnotherKind));
     }
     match next::take_next(cells, locations, values, marks, i, e) {
         Attempt::Taken => {

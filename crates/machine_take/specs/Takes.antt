@@ -9,13 +9,13 @@ use lib.Dec.{eqb}
 use Rattle.model.specs.declared.answer.Attempt.{Attempt}
 use Rattle.model.specs.declared.answer.Attempt.the-variants.{Taken}
 use Rattle.model.specs.declared.answer.Condition.{Condition}
-use Rattle.model.specs.declared.answer.Condition.the-variants.{AnotherKind, NothingWaits, LockHeld, NotEmpty, NotRight}
-use Rattle.model.specs.Code.{registerAt, placeAt, actsOf, taken}
+use Rattle.model.specs.declared.answer.Condition.the-variants.{AnotherKind, NothingWaits, LockHeld, BufferNotEmpty, NotRight}
+use Rattle.model.specs.Code.{registerAt, placeAt, actsOf, taken, judged}
 use Rattle.model.specs.declared.record.Record.{Record}
 use Rattle.model.specs.Sizes as sizes
 use Rattle.model.specs.Sizes.{processors, registersEach}
 use Rattle.model.specs.Rules.{conditions}
-use Rattle.model.specs.Step.{newest, judged}
+use Rattle.model.specs.Step.{newest, firstMet}
 use Rattle.machine_rules.specs.Guards.{blockedIn}
 use Rattle.machine_rules.specs.Offers.{waitingFrom, Log}
 use Rattle.machine_state.specs.Packed.{memoryAt, keptAt, issuedAt, drainedAt, holderAt, holderIn}
@@ -37,12 +37,12 @@ abbrev pub metIn : List ℕ → ℕ → Bool → Condition → Bool
 metIn marks p right AnotherKind = false
 metIn marks p right NothingWaits = emptyIn marks p
 metIn marks p right LockHeld = blockedIn (holderIn marks) p
-metIn marks p right NotEmpty = not (emptyIn marks p)
+metIn marks p right BufferNotEmpty = not (emptyIn marks p)
 metIn marks p right NotRight = not right
 
 -- what an attempt of a step of this kind comes to
 abbrev pub attempted : ℕ → List ℕ → ℕ → Bool → Attempt
-attempted kind marks p right = judged (metIn marks p right) (conditions kind)
+attempted kind marks p right = judged (firstMet (metIn marks p right) (conditions kind))
 
 pub record HasRegister (i e : Record) : Type 0 where
   pub processor : e .processor < processors

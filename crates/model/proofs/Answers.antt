@@ -5,9 +5,9 @@ use Prim.Native.Nat.{ℕ}
 use native.Mathlib.Omega.{arith}
 use lib.ListN.{getD}
 use Rattle.model.specs.declared.answer.Refusal.{Refusal}
-use Rattle.model.specs.declared.answer.Refusal.the-variants.{TableLength, TableKind, TableRange, TableUnused, InitialLate, CellTwice, Seventeenth, TraceLength, StepKind, StepField, StepTurned, Unfinished, RoomTooSmall}
+use Rattle.model.specs.declared.answer.Refusal.the-variants.{TableLength, TableKind, TableRange, TableUnused, InitialLate, CellTwice, Seventeenth, TraceLength, StepKind, StepField, StepRule, Unfinished, RoomTooSmall}
 use Rattle.model.specs.declared.answer.Condition.{Condition}
-use Rattle.model.specs.declared.answer.Condition.the-variants.{AnotherKind, NothingWaits, LockHeld, NotEmpty, NotRight}
+use Rattle.model.specs.declared.answer.Condition.the-variants.{AnotherKind, NothingWaits, LockHeld, BufferNotEmpty, NotRight}
 use Rattle.model.specs.declared.answer.Answer.{Answer}
 use Rattle.model.specs.declared.answer.Answer.the-variants.{Done, Refused}
 use Rattle.model.specs.Rules.{conditionNumber}
@@ -18,7 +18,7 @@ refusalOf : ℕ → Refusal
 refusalOf n =
     getD (TableLength ∷ TableLength ∷ TableKind ∷ TableRange ∷ TableUnused ∷ InitialLate ∷ CellTwice ∷ Seventeenth
     ∷ TraceLength ∷ StepKind ∷ StepField ∷ TableLength ∷ Unfinished ∷ RoomTooSmall
-    ∷ StepTurned AnotherKind ∷ StepTurned NotRight ∷ StepTurned LockHeld ∷ StepTurned NotEmpty ∷ StepTurned NothingWaits ∷ []) n TableLength
+    ∷ StepRule AnotherKind ∷ StepRule NotRight ∷ StepRule LockHeld ∷ StepRule BufferNotEmpty ∷ StepRule NothingWaits ∷ []) n TableLength
 
 refusal-back : (r : Refusal) → refusalOf (numberOf r) ≡ r
 unfolding refusalOf
@@ -32,17 +32,17 @@ refusal-back Seventeenth = refl
 refusal-back TraceLength = refl
 refusal-back StepKind = refl
 refusal-back StepField = refl
-refusal-back (StepTurned AnotherKind) = refl
-refusal-back (StepTurned NothingWaits) = refl
-refusal-back (StepTurned LockHeld) = refl
-refusal-back (StepTurned NotEmpty) = refl
-refusal-back (StepTurned NotRight) = refl
+refusal-back (StepRule AnotherKind) = refl
+refusal-back (StepRule NothingWaits) = refl
+refusal-back (StepRule LockHeld) = refl
+refusal-back (StepRule BufferNotEmpty) = refl
+refusal-back (StepRule NotRight) = refl
 refusal-back Unfinished = refl
 refusal-back RoomTooSmall = refl
 
 -- a condition has its own number
 pub one-condition : (c d : Condition) → conditionNumber c ≡ conditionNumber d → c ≡ d
-one-condition c d h = let same : StepTurned c ≡ StepTurned d = sym (refusal-back (StepTurned c)) ∙ ap refusalOf h ∙ refusal-back (StepTurned d) in cc
+one-condition c d h = let same : StepRule c ≡ StepRule d = sym (refusal-back (StepRule c)) ∙ ap refusalOf h ∙ refusal-back (StepRule d) in cc
 
 pub not-zero : (r : Refusal) → ¬ (numberOf r ≡ 0)
 unfolding refusalOf

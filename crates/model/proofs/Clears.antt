@@ -2,27 +2,26 @@
 use mathlib.Core.Path.{_≡_, refl, sym, ap, _∙_, subst}
 use mathlib.Core.Logic.{_↔_}
 use mathlib.Core.Bool.{Bool, true, false}
+use mathlib.Core.Option.{Option, none, some}
 use mathlib.Core.List.{List, [], _∷_, nil≢cons}
 use Prim.Native.Nat.{ℕ, _<_}
 use native.Mathlib.Omega.{arith}
-use lib.ListN.{getD}
 use lib.Dec.{eqb}
 use borrow.Author.Tests.{eqb-true, eqb-false}
+use Rattle.model.specs.declared.answer.Condition.{Condition}
 use Rattle.model.specs.declared.answer.Condition.the-variants.{AnotherKind, NotRight}
-use Rattle.model.specs.declared.answer.Attempt.{Attempt}
-use Rattle.model.specs.declared.answer.Attempt.the-variants.{Taken, Turned}
 use Rattle.model.specs.Lists.{All}
-use Rattle.model.specs.Fields.{Field, Proper, among}
+use Rattle.model.specs.Fields.{Proper}
 use Rattle.model.specs.Kinds.{stepUses}
 use Rattle.model.specs.Program.{ProgramStep, read, write, fence, lock, unlock, local}
 use Rattle.model.specs.Machine.{Machine, Holder, free, held, processor}
-use Rattle.model.specs.Rules.{Event, event, F, L, U, N, kindOf, Blocked, Right, ofRead, ofWrite, ofDrain, Met, conditions, Clear, Allowed, Read, Write, Drain, Fence, Lock, Unlock, Local}
-use Rattle.model.specs.Step.{holds, moveFor, met, judged, took, steppedOf, afterMove, step}
+use Rattle.model.specs.Rules.{Event, event, kindOf, Blocked, Right, ofRead, ofWrite, ofDrain, Met, conditions, Clear, Allowed, Read, Write, Drain, Fence, Lock, Unlock, Local}
+use Rattle.model.specs.Step.{holds, moveFor, met, firstMet, took, stepped, afterMove, step}
 use Rattle.model.specs.Orderly.{Paired, Orderly}
-use Rattle.model.proofs.Bools.{holds-true, holds-self}
-use Rattle.model.proofs.Conditions.{taken-clear, is-right}
+use Rattle.model.proofs.Bools.{holds-true}
+use Rattle.model.proofs.Conditions.{none-clear, is-right}
 use Rattle.model.proofs.Rows.{below}
-use Rattle.model.proofs.Events.{Bare, bare, no-register}
+use Rattle.model.proofs.Events.{as-bare}
 use Rattle.model.proofs.Steps.{took-inj, turned-took, allowed-step}
 
 -- ---- the holder of the lock
@@ -63,19 +62,7 @@ next-here s e n = go (processor s (e .processor) .todo) refl
         kind-is true z = refl
         kind-is false z = absurd (n (λ next′ rest′ h′ k. let same : next ≡ next′ = let both = sym h ∙ h′ in cc in eqb-false (kindOf next) (e .kind) z (ap kindOf same ∙ k)))
 
--- a fence, a lock, an unlock, a local step
-pub as-bare : (e : Event) → Proper stepUses e → 3 < e .kind → e ≡ event (e .kind) (e .processor) 0 0
-unfolding among stepUses
-as-bare e proper l = λ j. record { kind = e .kind; processor = e .processor; register = no-register e proper j; location = none .location j; value = none .value j }
-  where
-    of : (k : ℕ) → among (getD stepUses k []) Field.location ≡ false → among (getD stepUses k []) Field.value ≡ false → 3 < k → e .kind ≡ k → Bare e
-    of k x v l z = bare e proper k z x v
-
-    none : Bare e
-    none =
-        below 8 (λ k. 3 < k → e .kind ≡ k → Bare e)
-        (λ l. absurd (omega arith), (λ l. absurd (omega arith), (λ l. absurd (omega arith), (λ l. absurd (omega arith), (of 4 refl refl, (of 5 refl refl, (of 6 refl refl, (of 7 refl refl, tt))))))))
-        (e .kind) (proper .known .1) l refl
+-- ---- the step
 
 module _ (s : Machine) (orderly : Orderly s) where
   abbrev Some : Event → Type 0
@@ -144,12 +131,12 @@ module _ (s : Machine) (orderly : Orderly s) where
   pub step-allowed : (e : Event) → Proper stepUses e → (t : Machine) → step s e ≡ took t → Allowed s e t
   unfolding step
   step-allowed e proper t h =
-      let a = clear-allowed e proper (taken-clear s e (proper .known) .0 (go (judged (met s e) (conditions (e .kind))) h)) in
+      let a = clear-allowed e proper (none-clear s e (proper .known) .0 (go (firstMet (met s e) (conditions (e .kind))) h)) in
       subst (Allowed s e) (took-inj (sym (allowed-step s e (a .0) (a .1)) ∙ h)) (a .1)
     where
-      go : (a : Attempt) → steppedOf a (afterMove s (moveFor s e)) ≡ took t → a ≡ Taken
-      go Taken h = refl
-      go (Turned c) h = turned-took h
+      go : (o : Option Condition) → stepped o (afterMove s (moveFor s e)) ≡ took t → o ≡ none
+      go none h = refl
+      go (some c) h = turned-took h
 
   pub steps-exactly : (e : Event) → Proper stepUses e → (t : Machine) → (step s e ≡ took t) ↔ Allowed s e t
   steps-exactly e proper t = (step-allowed e proper t, allowed-step s e t)

@@ -1,44 +1,36 @@
--- The tests of the rules decide the five conditions, and a step is judged by the first that is met.
+-- The tests of the rules decide the five conditions, so the first that is met is found.
 use mathlib.Core.Path.{_≡_, refl, sym, ap, _∙_, subst}
 use mathlib.Core.Logic.{_↔_}
 use mathlib.Core.Bool.{Bool, true, false, cond, not}
+use mathlib.Core.Option.{none, some}
 use mathlib.Core.List.{List, [], _∷_, nil≢cons}
 use Prim.Native.Nat.{ℕ, _<_}
 use native.Mathlib.Omega.{arith}
-use lib.ListN.{length}
 use lib.Dec.{eqb}
-use borrow.Author.Tests.{eqb-false, eq-eqb, ne-eqb, not-true, not-false}
+use borrow.Author.Tests.{eqb-false, ne-eqb, not-true, not-false}
 use Rattle.model.specs.declared.answer.Condition.{Condition}
-use Rattle.model.specs.declared.answer.Condition.the-variants.{AnotherKind, NothingWaits, LockHeld, NotEmpty, NotRight}
-use Rattle.model.specs.declared.answer.Attempt.{Attempt}
-use Rattle.model.specs.declared.answer.Attempt.the-variants.{Taken, Turned}
+use Rattle.model.specs.declared.answer.Condition.the-variants.{AnotherKind, NothingWaits, LockHeld, BufferNotEmpty, NotRight}
 use Rattle.model.specs.Lists.{All}
 use Rattle.model.specs.Fields.{Known}
 use Rattle.model.specs.Kinds.{stepUses}
 use Rattle.model.specs.Program.{ProgramStep, read, write, fence, lock, unlock, local}
 use Rattle.model.specs.Machine.{Machine, WaitingWrite, processor, cell}
 use Rattle.model.specs.Rules.{Event, R, W, D, kindOf, Right, ofRead, ofWrite, ofDrain, Met, conditions, FirstMet, here, later, Clear}
-use Rattle.model.specs.Step.{isEmpty, same, seen, drainMove, nextMove, moveFor, isSo, met, judged}
-use Rattle.model.specs.Code.{taken}
+use Rattle.model.specs.Step.{isEmpty, same, seen, drainMove, nextMove, moveFor, isSo, met, firstMet}
+use Rattle.model.proofs.Tests.{some-inj, none-some}
 use Rattle.model.proofs.Bools.{false-true, fails, failed, unless-so, same-true, same-refl, blocked-test, empty-test}
 use Rattle.model.proofs.Sees.{newest-seen, sees-newest}
 use Rattle.model.proofs.Rows.{below}
 
 -- ---- the first of some conditions, each decided by a test
 
-pub turned-taken {ℓ} : {A : Type ℓ} {c : Condition} → Turned c ≡ Taken → A
-turned-taken h = false-true (ap taken h)
-
-pub turned-inj : {c d : Condition} → Turned c ≡ Turned d → c ≡ d
-turned-inj {c} {d} h = cc
-
-pub unmet : (f : Condition → Bool) (cs : List Condition) → judged f cs ≡ Taken → All (λ c. f c ≡ false) cs
-unfolding judged
+pub unmet : (f : Condition → Bool) (cs : List Condition) → firstMet f cs ≡ none → All (λ c. f c ≡ false) cs
+unfolding firstMet
 unmet f [] h = tt
 unmet f (c ∷ cs) h = go (f c) refl h (unmet f cs)
   where
-    go : (b : Bool) → f c ≡ b → cond b (Turned c) (judged f cs) ≡ Taken → (judged f cs ≡ Taken → All (λ c. f c ≡ false) cs) → All (λ c. f c ≡ false) (c ∷ cs)
-    go true t j ih = turned-taken j
+    go : (b : Bool) → f c ≡ b → cond b (some c) (firstMet f cs) ≡ none → (firstMet f cs ≡ none → All (λ c. f c ≡ false) cs) → All (λ c. f c ≡ false) (c ∷ cs)
+    go true t j ih = none-some (sym j)
     go false t j ih = (t, ih j)
 
 module _ (s : Machine) (e : Event) (f : Condition → Bool) where
@@ -49,24 +41,24 @@ module _ (s : Machine) (e : Event) (f : Condition → Bool) where
   clear-of [] d u = tt
   clear-of (c ∷ cs) d u = (failed (f c) (d .0) (u .0), clear-of cs (d .1) (u .1))
 
-  clear-judged : (cs : List Condition) → All Decides cs → All (λ c. ¬ Met c s e) cs → judged f cs ≡ Taken
-  unfolding judged
-  clear-judged [] d n = refl
-  clear-judged (c ∷ cs) d n = rw (fails (f c) (d .0) (n .0)) (clear-judged cs (d .1) (n .1))
+  clear-none : (cs : List Condition) → All Decides cs → All (λ c. ¬ Met c s e) cs → firstMet f cs ≡ none
+  unfolding firstMet
+  clear-none [] d n = refl
+  clear-none (c ∷ cs) d n = rw (fails (f c) (d .0) (n .0)) (clear-none cs (d .1) (n .1))
 
-  judged-first : (cs : List Condition) → All Decides cs → (c : Condition) → judged f cs ≡ Turned c → FirstMet s e c cs
-  unfolding judged
-  judged-first [] d c h = turned-taken (sym h)
-  judged-first (b ∷ cs) d c h = go (f b) refl h (judged-first cs (d .1) c)
+  first-sound : (cs : List Condition) → All Decides cs → (c : Condition) → firstMet f cs ≡ some c → FirstMet s e c cs
+  unfolding firstMet
+  first-sound [] d c h = none-some h
+  first-sound (b ∷ cs) d c h = go (f b) refl h (first-sound cs (d .1) c)
     where
-      go : (t : Bool) → f b ≡ t → cond t (Turned b) (judged f cs) ≡ Turned c → (judged f cs ≡ Turned c → FirstMet s e c cs) → FirstMet s e c (b ∷ cs)
-      go true t j ih = subst (λ (a : Condition). FirstMet s e a (b ∷ cs)) (turned-inj j) (here (d .0 .0 t))
+      go : (t : Bool) → f b ≡ t → cond t (some b) (firstMet f cs) ≡ some c → (firstMet f cs ≡ some c → FirstMet s e c cs) → FirstMet s e c (b ∷ cs)
+      go true t j ih = subst (λ (a : Condition). FirstMet s e a (b ∷ cs)) (some-inj j) (here (d .0 .0 t))
       go false t j ih = later (failed (f b) (d .0) t) (ih j)
 
-  first-judged : (cs : List Condition) → All Decides cs → (c : Condition) → FirstMet s e c cs → judged f cs ≡ Turned c
-  unfolding judged
-  first-judged cs d c (here m) = rw (d .0 .1 m)
-  first-judged cs d c (later {d = b} n l) = rw (fails (f b) (d .0) n) (first-judged _ (d .1) c l)
+  first-found : (cs : List Condition) → All Decides cs → (c : Condition) → FirstMet s e c cs → firstMet f cs ≡ some c
+  unfolding firstMet
+  first-found cs d c (here m) = rw (d .0 .1 m)
+  first-found cs d c (later {d = b} n l) = rw (fails (f b) (d .0) n) (first-found _ (d .1) c l)
 
 -- ---- each condition
 
@@ -135,7 +127,7 @@ module _ (s : Machine) (e : Event) where
   unfolding met
   held = blocked-test s (e .processor)
 
-  not-empty : Tells NotEmpty
+  not-empty : Tells BufferNotEmpty
   unfolding met
   not-empty = unless-so (isEmpty (processor s (e .processor) .waiting)) (empty-test (processor s (e .processor) .waiting))
 
@@ -179,12 +171,12 @@ module _ (s : Machine) (e : Event) where
     ),
   ) (e .kind) (k .1) refl
 
-  -- none is met exactly when the step is taken, and the first that is met turns it down
-  pub taken-clear : Known stepUses e → (judged (met s e) (conditions (e .kind)) ≡ Taken) ↔ Clear s e
-  taken-clear k = (λ h. clear-of s e (met s e) (conditions (e .kind)) (tells k) (unmet (met s e) (conditions (e .kind)) h), clear-judged s e (met s e) (conditions (e .kind)) (tells k))
+  -- none is found exactly when none is met, and one exactly when it is the first
+  pub none-clear : Known stepUses e → (firstMet (met s e) (conditions (e .kind)) ≡ none) ↔ Clear s e
+  none-clear k = (λ h. clear-of s e (met s e) (conditions (e .kind)) (tells k) (unmet (met s e) (conditions (e .kind)) h), clear-none s e (met s e) (conditions (e .kind)) (tells k))
 
-  pub turned-first : Known stepUses e → (c : Condition) → (judged (met s e) (conditions (e .kind)) ≡ Turned c) ↔ FirstMet s e c (conditions (e .kind))
-  turned-first k c = (judged-first s e (met s e) (conditions (e .kind)) (tells k) c, first-judged s e (met s e) (conditions (e .kind)) (tells k) c)
+  pub some-first : Known stepUses e → (c : Condition) → (firstMet (met s e) (conditions (e .kind)) ≡ some c) ↔ FirstMet s e c (conditions (e .kind))
+  some-first k c = (first-sound s e (met s e) (conditions (e .kind)) (tells k) c, first-found s e (met s e) (conditions (e .kind)) (tells k) c)
 
   -- location and value of a read, a write or a drain that is allowed are the right ones
   pub is-right : e .kind < 4 → ¬ Met NotRight s e → Right s e

@@ -2,13 +2,15 @@
 use mathlib.Core.Path.{_≡_, refl, ap, _∙_}
 use mathlib.Core.Bool.{false}
 use Prim.Native.Nat.{ℕ, zero, suc, _<_}
+use native.Mathlib.Omega.{arith}
 use lib.ListN.{getD}
 use mathlib.Core.List.{[]}
 use Rattle.model.specs.Sizes.{processors, locations}
 use Rattle.model.specs.Fields.{Field, Proper, among, used}
 use Rattle.model.specs.Kinds.{stepUses}
-use Rattle.model.specs.Rules.{Event}
+use Rattle.model.specs.Rules.{Event, event}
 use Rattle.model.proofs.Fields.{proper-fields}
+use Rattle.model.proofs.Rows.{below}
 
 -- neither location nor value
 pub record Bare (e : Event) : Type 0 where
@@ -51,3 +53,17 @@ module _ (e : Event) (proper : Proper stepUses e) where
     location = proper .unusedZero .location (ap (λ (n : ℕ). among (getD stepUses n []) Field.location) z ∙ l);
     value = proper .unusedZero .value (ap (λ (n : ℕ). among (getD stepUses n []) Field.value) z ∙ v);
   }
+
+  -- a fence, a lock, an unlock, a local step
+  pub as-bare : 3 < e .kind → e ≡ event (e .kind) (e .processor) 0 0
+  unfolding among stepUses
+  as-bare l = λ j. record { kind = e .kind; processor = e .processor; register = no-register j; location = none .location j; value = none .value j }
+    where
+      of : (k : ℕ) → among (getD stepUses k []) Field.location ≡ false → among (getD stepUses k []) Field.value ≡ false → 3 < k → e .kind ≡ k → Bare e
+      of k x v l z = bare k z x v
+
+      none : Bare e
+      none =
+          below 8 (λ k. 3 < k → e .kind ≡ k → Bare e)
+          (λ l. absurd (omega arith), (λ l. absurd (omega arith), (λ l. absurd (omega arith), (λ l. absurd (omega arith), (of 4 refl refl, (of 5 refl refl, (of 6 refl refl, (of 7 refl refl, tt))))))))
+          (e .kind) low-kind l refl

@@ -5,12 +5,11 @@ use mathlib.Core.Bool.{Bool, true, false, cond, _||_}
 use mathlib.Core.Option.{Option, none, some}
 use mathlib.Core.List.{List, [], _∷_}
 use Prim.Native.Nat.{ℕ, suc}
-use Rattle.model.specs.declared.answer.Condition.{Condition}
 use Rattle.model.specs.Lists.{All}
 use Rattle.model.specs.Fields.{Known, Proper}
 use Rattle.model.specs.Kinds.{stepUses}
 use Rattle.model.specs.Machine.{Machine}
-use Rattle.model.specs.Rules.{Event, conditionNumber, Allowed, Run}
+use Rattle.model.specs.Rules.{Event, Allowed, Run}
 use Rattle.model.specs.Step.{Stepped, took, turned, step}
 use Rattle.model.specs.Tests.{first, unknown, tooLarge, notZero, passed, refused, inOrder}
 use Rattle.model.specs.Calls.{stepTests, atPlace, takeRecord}
@@ -21,7 +20,7 @@ use Rattle.model.proofs.InOrder.{in-order-more}
 use Rattle.model.proofs.Fields.{or-left, or-right, or-false, known-test, range-test, zero-test}
 use Rattle.model.proofs.Bools.{met, not-met}
 use Rattle.model.proofs.Orderly.{orderly-kept}
-use Rattle.model.proofs.Steps.{allowed-step, turned-exactly}
+use Rattle.model.proofs.Steps.{allowed-step, turned-number, turned-exactly}
 use Rattle.model.proofs.Clears.{step-allowed}
 
 -- ---- 9 and 10
@@ -57,10 +56,10 @@ unfolding atPlace
 took-at i (took u) t h = ap took (passed-inj h)
 took-at i (turned n) t h = passed-refused (sym h)
 
-turned-at : (i : ℕ) (o : Stepped) (n j : ℕ) → atPlace i o ≡ refused n j → (c : Condition) × (o ≡ turned c) × (conditionNumber c ≡ n) × (i ≡ j)
+turned-at : (i : ℕ) (o : Stepped) (n j : ℕ) → atPlace i o ≡ refused n j → (o ≡ turned n) × (i ≡ j)
 unfolding atPlace
 turned-at i (took u) n j h = passed-refused h
-turned-at i (turned c) n j h = (c, refl, cc, cc)
+turned-at i (turned m) n j h = (cc, cc)
 
 pub take-passed : (i : ℕ) (s t : Machine) (e : Event) → Orderly s → takeRecord i s e ≡ passed t → Allowed s e t
 unfolding takeRecord
@@ -90,7 +89,8 @@ take-refused i s e n j h = go (unless-refused (first (stepTests e)) i _ n j h)
     go (inr c) =
         let t = turned-at i (step s e) n j (c .1) in
         let proper = proper-passes e .0 (c .0) in
-        (subst (Turns s e) (t .2) (Turns.byRule proper (turned-exactly s e (proper .known) (t .0) .0 (t .1))), t .3)
+        let c = turned-number s e (proper .known) n (t .0) in
+        (subst (Turns s e) (c .1) (Turns.byRule proper (c .2)), t .1)
 
 pub take-turns : (i : ℕ) (s : Machine) (e : Event) (n : ℕ) → Turns s e n → takeRecord i s e ≡ refused n i
 unfolding takeRecord atPlace stepTests first wrong

@@ -5,7 +5,7 @@ use native.Mathlib.Omega.{arith}
 use mathlib.Core.List.{List}
 use Rattle.model.specs.declared.record.Record.{Record}
 use Rattle.model.specs.declared.answer.Condition.{Condition}
-use Rattle.model.specs.declared.answer.Condition.the-variants.{AnotherKind, NothingWaits, LockHeld, NotEmpty, NotRight}
+use Rattle.model.specs.declared.answer.Condition.the-variants.{AnotherKind, NothingWaits, LockHeld, BufferNotEmpty, NotRight}
 use Rattle.model.specs.Kinds.{Entry}
 use Rattle.model.specs.Table.{Refuses}
 use Rattle.model.specs.Machine.{Machine}
@@ -24,7 +24,7 @@ pub condition-number : (c : Condition) → (14 ≤ conditionNumber c) × (condit
 condition-number AnotherKind = omega arith
 condition-number NothingWaits = omega arith
 condition-number LockHeld = omega arith
-condition-number NotEmpty = omega arith
+condition-number BufferNotEmpty = omega arith
 condition-number NotRight = omega arith
 
 trace-number : (s : Machine) (e : Event) (n : ℕ) → Turns s e n → (9 ≤ n) × ¬ (n ≡ 11) × ¬ (n ≡ 12)

@@ -7,7 +7,6 @@ use native.Mathlib.Omega.{arith}
 use lib.ListN.{getD}
 use Rattle.model.specs.Machine.{Machine, Processor, Holder, free, held, processor, idle}
 use Rattle.model.specs.Rules.{Blocked}
-use Rattle.model.specs.Step.{holds}
 use Rattle.model.specs.Left.{leftIn, left, Done, Mover}
 use Rattle.model.specs.Finish.{isDone, firstBusy, mover}
 use Rattle.model.specs.Orderly.{Paired, Orderly}

@@ -1,7 +1,7 @@
 -- The five numbers in a machine that a run of a readable table reaches: there a step is allowed exactly when it gets none.
 use mathlib.Core.Path.{_≡_, refl, sym, _∙_}
-use mathlib.Core.Logic.{_↔_}
-use mathlib.Core.List.{List, [], _∷_}
+use mathlib.Core.Logic.{_↔_, _⊎_, inl, inr}
+use mathlib.Core.List.{List, _∷_}
 use Prim.Native.Nat.{ℕ}
 use Rattle.model.specs.Fields.{Proper}
 use Rattle.model.specs.Kinds.{Entry, stepUses}
@@ -38,13 +38,29 @@ module _ (table : List ℕ) (entries : List Entry) (readable : Readable table en
     pub clear-exactly : Proper stepUses e → Clear s e ↔ ((t : Machine) × Allowed s e t)
     clear-exactly proper = (clears.clear-allowed s orderly e proper, λ a. allowed-clear s e (a .0) (a .1))
 
-    -- and exactly when it gets no number
-    pub no-number : ((n : ℕ) → ¬ Turns s e n) ↔ ((t : Machine) × Allowed s e t)
-    no-number = (
-      go (takeRecord 0 s e) refl,
-      λ a n t. passed-refused (sym (take-allowed 0 s (a .0) e (next-proper table entries readable es s run e (a .0) (a .1)) (a .1)) ∙ take-turns 0 s e n t),
-    )
+    -- it is allowed, or it gets a number, and not both
+    either : ((t : Machine) × Allowed s e t) ⊎ ((n : ℕ) × Turns s e n)
+    either = go (takeRecord 0 s e) refl
       where
-        go : (o : Tested Machine) → takeRecord 0 s e ≡ o → ((n : ℕ) → ¬ Turns s e n) → (t : Machine) × Allowed s e t
-        go (passed t) h never = (t, take-passed 0 s t e orderly h)
-        go (refused n i) h never = absurd (never n (take-refused 0 s e n i h .0))
+        go : (o : Tested Machine) → takeRecord 0 s e ≡ o → ((t : Machine) × Allowed s e t) ⊎ ((n : ℕ) × Turns s e n)
+        go (passed t) h = inl (t, take-passed 0 s t e orderly h)
+        go (refused n i) h = inr (n, take-refused 0 s e n i h .0)
+
+    not-both : (t : Machine) → Allowed s e t → (n : ℕ) → ¬ Turns s e n
+    not-both t a n u = passed-refused (sym (take-allowed 0 s t e (next-proper table entries readable es s run e t a) a) ∙ take-turns 0 s e n u)
+
+    -- so it gets no number exactly when a rule allows it
+    pub no-number : ((n : ℕ) → ¬ Turns s e n) ↔ ((t : Machine) × Allowed s e t)
+    no-number = (go either, λ a. not-both (a .0) (a .1))
+      where
+        go : ((t : Machine) × Allowed s e t) ⊎ ((n : ℕ) × Turns s e n) → ((n : ℕ) → ¬ Turns s e n) → (t : Machine) × Allowed s e t
+        go (inl a) never = a
+        go (inr u) never = absurd (never (u .0) (u .1))
+
+    -- and a number exactly when none does
+    pub some-number : ((t : Machine) → ¬ Allowed s e t) ↔ ((n : ℕ) × Turns s e n)
+    some-number = (go either, λ u t a. not-both t a (u .0) (u .1))
+      where
+        go : ((t : Machine) × Allowed s e t) ⊎ ((n : ℕ) × Turns s e n) → ((t : Machine) → ¬ Allowed s e t) → (n : ℕ) × Turns s e n
+        go (inl a) never = absurd (never (a .0) (a .1))
+        go (inr u) never = u

@@ -1,31 +1,29 @@
 -- `step` takes the steps that the rules allow, and turns the others down for the first condition that is met; a step has one result.
-use mathlib.Core.Path.{_≡_, refl, sym, ap, _∙_}
+use mathlib.Core.Path.{_≡_, refl, sym, ap, _∙_, subst}
 use mathlib.Core.Logic.{_↔_}
-use mathlib.Core.Bool.{true}
-use mathlib.Core.Option.{some}
-use mathlib.Core.List.{List, [], _∷_}
+use mathlib.Core.Option.{Option, none, some}
+use mathlib.Core.List.{List, _∷_}
 use Prim.Native.Nat.{ℕ}
 use native.Mathlib.Omega.{arith}
 use Rattle.model.specs.declared.answer.Condition.{Condition}
-use Rattle.model.specs.declared.answer.Attempt.{Attempt}
-use Rattle.model.specs.declared.answer.Attempt.the-variants.{Taken, Turned}
 use Rattle.model.specs.Fields.{Known}
 use Rattle.model.specs.Kinds.{stepUses}
-use Rattle.model.specs.Program.{ProgramStep, Target, Source, read, write}
+use Rattle.model.specs.Program.{ProgramStep, Source, write}
 use Rattle.model.specs.Machine.{Machine, processor, cell, issued, received, withProcessor}
-use Rattle.model.specs.Rules.{Event, R, W, Sees, Right, ofRead, ofWrite, ofDrain, conditions, FirstMet, Clear, Allowed, Read, Write, Drain, Fence, Lock, Unlock, Local}
-use Rattle.model.specs.Step.{Move, drainMove, nextMove, moveFor, met, judged, Stepped, took, turned, steppedOf, afterMove, step, seen}
+use Rattle.model.specs.Rules.{Event, R, W, Sees, Right, ofRead, ofWrite, ofDrain, conditionNumber, conditions, FirstMet, Clear, Allowed, Read, Write, Drain, Fence, Lock, Unlock, Local}
+use Rattle.model.specs.Step.{Move, drainMove, nextMove, moveFor, met, firstMet, took, turned, stepped, afterMove, step, seen}
 use Rattle.model.proofs.Sees.{sees-newest}
-use Rattle.model.proofs.Conditions.{taken-clear, turned-first, is-right}
+use Rattle.model.proofs.Answers.{one-condition}
+use Rattle.model.proofs.Conditions.{none-clear, some-first, is-right}
 
 pub took-inj : {s t : Machine} → took s ≡ took t → s ≡ t
 took-inj {s} {t} h = cc
 
-pub turned-took {ℓ} : {A : Type ℓ} {c : Condition} {t : Machine} → turned c ≡ took t → A
-turned-took {A} {c} {t} h = let z : _≡_ {A = ℕ} 0 1 = cc in absurd (omega arith)
+pub turned-took {ℓ} : {A : Type ℓ} {n : ℕ} {t : Machine} → turned n ≡ took t → A
+turned-took {A} {n} {t} h = let z : _≡_ {A = ℕ} 0 1 = cc in absurd (omega arith)
 
-turned-inj : {c d : Condition} → turned c ≡ turned d → c ≡ d
-turned-inj {c} {d} h = cc
+turned-inj : {n m : ℕ} → turned n ≡ turned m → n ≡ m
+turned-inj {n} {m} h = cc
 
 -- ---- what an allowed step is known to have
 
@@ -96,17 +94,26 @@ pub allowed-step : (s : Machine) (e : Event) (t : Machine) → Allowed s e t →
 unfolding step afterMove
 allowed-step s e t a =
     let o = offered s e t a in
-    (λ j. steppedOf (taken-clear s e (allowed-known s e t a) .1 (allowed-clear s e t a) j) (afterMove s (o .asked j))) ∙ ap took (o .after)
+    (λ j. stepped (none-clear s e (allowed-known s e t a) .1 (allowed-clear s e t a) j) (afterMove s (o .asked j))) ∙ ap took (o .after)
 
 pub one-result : (s : Machine) (e : Event) (t u : Machine) → Allowed s e t → Allowed s e u → t ≡ u
 one-result s e t u a b = took-inj (sym (allowed-step s e t a) ∙ allowed-step s e u b)
 
 -- ---- a step that is turned down
 
-pub turned-exactly : (s : Machine) (e : Event) → Known stepUses e → (c : Condition) → (step s e ≡ turned c) ↔ FirstMet s e c (conditions (e .kind))
+-- with the number of the first condition that is met
+pub turned-number : (s : Machine) (e : Event) → Known stepUses e → (n : ℕ) → step s e ≡ turned n → (c : Condition) × (conditionNumber c ≡ n) × FirstMet s e c (conditions (e .kind))
 unfolding step
-turned-exactly s e k c = (λ h. turned-first s e k c .0 (go (judged (met s e) (conditions (e .kind))) h), λ f. ap (λ (a : Attempt). steppedOf a (afterMove s (moveFor s e))) (turned-first s e k c .1 f))
+turned-number s e k n h = go (firstMet (met s e) (conditions (e .kind))) refl h
   where
-    go : (a : Attempt) → steppedOf a (afterMove s (moveFor s e)) ≡ turned c → a ≡ Turned c
-    go Taken h = turned-took (sym h)
-    go (Turned d) h = ap Turned (turned-inj h)
+    go : (o : Option Condition) → firstMet (met s e) (conditions (e .kind)) ≡ o → stepped o (afterMove s (moveFor s e)) ≡ turned n
+        → (c : Condition) × (conditionNumber c ≡ n) × FirstMet s e c (conditions (e .kind))
+    go none f h = turned-took (sym h)
+    go (some c) f h = (c, turned-inj h, some-first s e k c .0 f)
+
+pub turned-exactly : (s : Machine) (e : Event) → Known stepUses e → (c : Condition) → (step s e ≡ turned (conditionNumber c)) ↔ FirstMet s e c (conditions (e .kind))
+unfolding step
+turned-exactly s e k c = (
+  λ h. let t = turned-number s e k (conditionNumber c) h in subst (λ (d : Condition). FirstMet s e d (conditions (e .kind))) (one-condition (t .0) c (t .1)) (t .2),
+  λ f. ap (λ (o : Option Condition). stepped o (afterMove s (moveFor s e))) (some-first s e k c .1 f),
+)

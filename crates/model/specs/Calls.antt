@@ -10,7 +10,6 @@ use Rattle.model.specs.Record.{records, fileOf}
 use Rattle.model.specs.Kinds.{stepUses}
 use Rattle.model.specs.Table.{start}
 use Rattle.model.specs.Machine.{Machine}
-use Rattle.model.specs.Rules.{conditionNumber}
 use Rattle.model.specs.Step.{Stepped, took, turned, step}
 use Rattle.model.specs.Left.{left}
 use Rattle.model.specs.Finish.{isFinished, completion}
@@ -26,7 +25,7 @@ stepTests r = test 9 (unknown stepUses r) ∷ test 10 (tooLarge stepUses r || no
 
 unfoldable pub atPlace : ℕ → Stepped → Tested Machine
 atPlace i (took t) = passed t
-atPlace i (turned c) = refused (conditionNumber c) i
+atPlace i (turned n) = refused n i
 
 -- record i: tested 9, 10, and then by the rules
 unfoldable pub takeRecord : ℕ → Machine → Record → Tested Machine

@@ -1,6 +1,7 @@
 -- What the code's types stand for: verdicts, attempted steps, programs in columns, cells. Only contracts inside the repository speak of them.
 use mathlib.Core.Path.{_≡_}
 use mathlib.Core.Bool.{Bool, true, false}
+use mathlib.Core.Option.{Option, none, some}
 use mathlib.Core.List.{List, [], _∷_, _++_, map}
 use Prim.Native.Nat.{ℕ, zero, suc, _+_, _*_, _%_, _≤_, _<_}
 use lib.ListN.{length, getD}
@@ -8,6 +9,8 @@ use lib.Seq.{slice}
 use Rattle.model.specs.declared.record.Record.{Record}
 use Rattle.model.specs.declared.kind.Role.{Role}
 use Rattle.model.specs.declared.kind.Role.the-variants.{Unknown, InitialMemory, InitialRegister, StoreConstant, StoreRegister, Load, SetRegister, Fence, Exchange, ExchangeAdd}
+use Rattle.model.specs.declared.answer.Condition.{Condition}
+use Rattle.model.specs.declared.answer.Refusal.the-variants.{StepRule}
 use Rattle.model.specs.declared.answer.Attempt.{Attempt}
 use Rattle.model.specs.declared.answer.Attempt.the-variants.{Taken, Turned}
 use Rattle.model.specs.declared.answer.Verdict.{Verdict}
@@ -20,6 +23,7 @@ use Rattle.model.specs.Kinds.{Entry, initialMemory, initialRegister, ins
 use Rattle.model.specs.Reading.{isInstruction}
 use Rattle.model.specs.Machine.{Processor, Machine, free}
 use Rattle.model.specs.Reply.{numberOf}
+use Rattle.model.specs.Step.{Stepped, took, turned}
 use Rattle.model.specs.Tests.{Test, first, Tested, passed, refused, unless}
 
 -- ---- verdicts
@@ -37,7 +41,17 @@ pub record Gives (v : Verdict) (tests : List Test) (i : ℕ) : Type 0 where
 
 abbrev pub taken : Attempt → Bool
 taken Taken = true
-taken (Turned c) = false
+taken (Turned why) = false
+
+-- a step is turned down for a condition of its rule or, with none, taken
+abbrev pub judged : Option Condition → Attempt
+judged none = Taken
+judged (some c) = Turned (StepRule c)
+
+-- an attempt, with the machine that there is to go on with if it is taken
+abbrev pub steppedOf : Attempt → Machine → Stepped
+steppedOf Taken t = took t
+steppedOf (Turned why) t = turned (numberOf why)
 
 -- ---- roles
 

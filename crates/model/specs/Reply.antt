@@ -2,7 +2,7 @@
 use mathlib.Core.List.{List, [], _∷_, _++_}
 use Prim.Native.Nat.{ℕ}
 use Rattle.model.specs.declared.answer.Refusal.{Refusal}
-use Rattle.model.specs.declared.answer.Refusal.the-variants.{TableLength, TableKind, TableRange, TableUnused, InitialLate, CellTwice, Seventeenth, TraceLength, StepKind, StepField, StepTurned, Unfinished, RoomTooSmall}
+use Rattle.model.specs.declared.answer.Refusal.the-variants.{TableLength, TableKind, TableRange, TableUnused, InitialLate, CellTwice, Seventeenth, TraceLength, StepKind, StepField, StepRule, Unfinished, RoomTooSmall}
 use Rattle.model.specs.declared.answer.Answer.{Answer}
 use Rattle.model.specs.declared.answer.Answer.the-variants.{Done, Refused}
 use Rattle.model.specs.Machine.{Machine, Processor}
@@ -41,7 +41,7 @@ numberOf Seventeenth = 7
 numberOf TraceLength = 8
 numberOf StepKind = 9
 numberOf StepField = 10
-numberOf (StepTurned c) = conditionNumber c
+numberOf (StepRule c) = conditionNumber c
 numberOf Unfinished = 12
 numberOf RoomTooSmall = 13
 

@@ -1,12 +1,12 @@
 -- When a step is allowed, or why it is turned down: document 01's seven rules, after Figure 1 of source 004, by document 02's five conditions; and runs of allowed steps.
--- Step.antt says the same as functions, and proofs/Steps.antt shows that they agree.
+-- Step.antt says the same as functions, and proofs/Conditions.antt, Steps.antt and Clears.antt show that they agree.
 use mathlib.Core.Path.{_≡_}
 use mathlib.Core.List.{List, [], _∷_, _++_}
 use Prim.Native.Nat.{ℕ}
 use lib.ListN.{getD}
 use Rattle.model.specs.declared.record.Record.{Record}
 use Rattle.model.specs.declared.answer.Condition.{Condition}
-use Rattle.model.specs.declared.answer.Condition.the-variants.{AnotherKind, NothingWaits, LockHeld, NotEmpty, NotRight}
+use Rattle.model.specs.declared.answer.Condition.the-variants.{AnotherKind, NothingWaits, LockHeld, BufferNotEmpty, NotRight}
 use Rattle.model.specs.Lists.{All}
 use Rattle.model.specs.Program.{ProgramStep, read, write, fence, lock, unlock, local, Target, Source}
 use Rattle.model.specs.Machine.{Machine, WaitingWrite, writeOf, free, held, processor, cell, issued, advanced, assigned, received, wrote, drained, withProcessor, withCell, withHolder}
@@ -86,7 +86,7 @@ Met NothingWaits s e = processor s (e .processor) .waiting ≡ []
 -- another processor holds the lock
 Met LockHeld s e = Blocked s (e .processor)
 -- own buffer not empty
-Met NotEmpty s e = ¬ (processor s (e .processor) .waiting ≡ [])
+Met BufferNotEmpty s e = ¬ (processor s (e .processor) .waiting ≡ [])
 -- location or value is not the right one
 Met NotRight s e = ¬ Right s e
 
@@ -94,7 +94,7 @@ abbrev pub conditionNumber : Condition → ℕ
 conditionNumber AnotherKind = 14
 conditionNumber NothingWaits = 18
 conditionNumber LockHeld = 16
-conditionNumber NotEmpty = 17
+conditionNumber BufferNotEmpty = 17
 conditionNumber NotRight = 15
 
 -- the conditions that each rule has, in the order in which they are tested: by the kind of the step, from 0 on, which is none
@@ -105,9 +105,9 @@ conditions kind =
     ∷ (AnotherKind ∷ LockHeld ∷ NotRight ∷ [])  -- read
     ∷ (AnotherKind ∷ NotRight ∷ [])  -- write
     ∷ (NothingWaits ∷ LockHeld ∷ NotRight ∷ [])  -- drain
-    ∷ (AnotherKind ∷ NotEmpty ∷ [])  -- fence
-    ∷ (AnotherKind ∷ LockHeld ∷ NotEmpty ∷ [])  -- lock
-    ∷ (AnotherKind ∷ NotEmpty ∷ [])  -- unlock
+    ∷ (AnotherKind ∷ BufferNotEmpty ∷ [])  -- fence
+    ∷ (AnotherKind ∷ LockHeld ∷ BufferNotEmpty ∷ [])  -- lock
+    ∷ (AnotherKind ∷ BufferNotEmpty ∷ [])  -- unlock
     ∷ (AnotherKind ∷ [])  -- local
     ∷ [])
     kind

@@ -5,12 +5,10 @@ use mathlib.Core.List.{List, [], _∷_}
 use Prim.Native.Nat.{ℕ}
 use lib.Dec.{eqb}
 use Rattle.model.specs.declared.answer.Condition.{Condition}
-use Rattle.model.specs.declared.answer.Condition.the-variants.{AnotherKind, NothingWaits, LockHeld, NotEmpty, NotRight}
-use Rattle.model.specs.declared.answer.Attempt.{Attempt}
-use Rattle.model.specs.declared.answer.Attempt.the-variants.{Taken, Turned}
+use Rattle.model.specs.declared.answer.Condition.the-variants.{AnotherKind, NothingWaits, LockHeld, BufferNotEmpty, NotRight}
 use Rattle.model.specs.Program.{ProgramStep, read, write, fence, lock, unlock, local}
 use Rattle.model.specs.Machine.{Machine, WaitingWrite, Holder, free, held, processor, cell, issued, advanced, assigned, received, wrote, drained, withProcessor, withCell, withHolder}
-use Rattle.model.specs.Rules.{Event, R, W, D, F, L, U, N, conditions}
+use Rattle.model.specs.Rules.{Event, R, W, D, F, L, U, N, conditionNumber, conditions}
 
 -- ---- tests
 
@@ -93,30 +91,30 @@ unfolding moveFor isSo same blocked isEmpty processor
 met s e AnotherKind = not (isSo (λ o. eqb (e .kind) (o .kind)) (moveFor s e))
 met s e NothingWaits = isEmpty (processor s (e .processor) .waiting)
 met s e LockHeld = blocked (s .holder) (e .processor)
-met s e NotEmpty = not (isEmpty (processor s (e .processor) .waiting))
+met s e BufferNotEmpty = not (isEmpty (processor s (e .processor) .waiting))
 met s e NotRight = not (isSo (same e) (moveFor s e))
+
+-- the first of these that is met
+unfoldable pub firstMet : (Condition → Bool) → List Condition → Option Condition
+firstMet f [] = none
+firstMet f (c ∷ cs) = cond (f c) (some c) (firstMet f cs)
 
 -- ---- a step
 
--- it is turned down for the first of these conditions that is met, or taken
-unfoldable pub judged : (Condition → Bool) → List Condition → Attempt
-judged f [] = Taken
-judged f (c ∷ cs) = cond (f c) (Turned c) (judged f cs)
-
--- a step is taken, and leads to a machine, or is turned down
+-- a step is taken, or turned down with a number
 pub data Stepped : Type 0 where
   took : Machine → Stepped
-  turned : Condition → Stepped
+  turned : (number : ℕ) → Stepped
 
--- an attempt, with the machine that there is to go on with if it is taken
-abbrev pub steppedOf : Attempt → Machine → Stepped
-steppedOf Taken t = took t
-steppedOf (Turned c) t = turned c
+-- it is turned down for a condition or, with none, leads to t
+abbrev pub stepped : Option Condition → Machine → Stepped
+stepped none t = took t
+stepped (some c) t = turned (conditionNumber c)
 
 unfoldable pub afterMove : Machine → Option Move → Machine
 afterMove s none = s
 afterMove s (some m) = m .after
 
 unfoldable pub step : Machine → Event → Stepped
-unfolding moveFor met judged afterMove conditions
-step s e = steppedOf (judged (met s e) (conditions (e .kind))) (afterMove s (moveFor s e))
+unfolding moveFor met firstMet afterMove conditions
+step s e = stepped (firstMet (met s e) (conditions (e .kind))) (afterMove s (moveFor s e))

@@ -6,7 +6,7 @@ pub enum Condition {
     // By another processor.
     LockHeld,
     // The own buffer.
-    NotEmpty,
+    BufferNotEmpty,
     // The location, or the value.
     NotRight,
 }
@@ -23,7 +23,7 @@ pub enum Refusal {
     TraceLength,
     StepKind,
     StepField,
-    StepTurned(Condition),
+    StepRule(Condition),
     Unfinished,
     RoomTooSmall,
 }
@@ -43,5 +43,5 @@ pub enum Verdict {
 // A step is taken, or turned down: why.
 pub enum Attempt {
     Taken,
-    Turned(Condition),
+    Turned(Refusal),
 }

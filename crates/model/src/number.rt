@@ -12,7 +12,7 @@ fn condition_number(condition: Condition) -> u64
         Condition::AnotherKind => 14,
         Condition::NothingWaits => 18,
         Condition::LockHeld => 16,
-        Condition::NotEmpty => 17,
+        Condition::BufferNotEmpty => 17,
         Condition::NotRight => 15,
     }
 }
@@ -31,7 +31,7 @@ pub fn number(why: Refusal) -> u64
         Refusal::TraceLength => 8,
         Refusal::StepKind => 9,
         Refusal::StepField => 10,
-        Refusal::StepTurned(condition) => condition_number(condition),
+        Refusal::StepRule(condition) => condition_number(condition),
         Refusal::Unfinished => 12,
         Refusal::RoomTooSmall => 13,
     }

@@ -2,7 +2,7 @@
 use mathlib.Core.Path.{_≡_, refl}
 use mathlib.Core.List.{List, [], _∷_}
 use Prim.Native.Nat.{ℕ}
-use Rattle.model.specs.declared.answer.Refusal.the-variants.{StepTurned}
+use Rattle.model.specs.declared.answer.Refusal.the-variants.{StepRule}
 use Rattle.model.specs.declared.answer.Condition.the-variants.{NotRight}
 use Rattle.model.specs.declared.answer.Answer.the-variants.{Done, Refused}
 use Rattle.model.specs.Reply.{replyOf}
@@ -24,7 +24,7 @@ pub line-one : listed (replyOf (Done 6) room) ≡
 unfolding digitsOf spaced processorLine processorLines memoryLine finishedLine linesOf listed
 line-one = refl
 
-pub line-two : listed (replyOf (Refused (StepTurned NotRight) 2) room) ≡
+pub line-two : listed (replyOf (Refused (StepRule NotRight) 2) room) ≡
     114 ∷ 101 ∷ 102 ∷ 117 ∷ 115 ∷ 101 ∷ 100 ∷ 32 ∷ 49 ∷ 53 ∷ 32 ∷ 97 ∷ 116 ∷ 32 ∷ 50 ∷ 10 ∷  -- refused 15 at 2
     []
 unfolding digitsOf refusedLine linesOf listed

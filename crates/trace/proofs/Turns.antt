@@ -20,8 +20,7 @@ use Rattle.model.specs.Machine.{Machine}
 use Rattle.model.specs.Tests.{refused, andThen, inOrder, tooLarge, notZero}
 use Rattle.model.specs.Reply.{numberOf}
 use Rattle.model.specs.Calls.{stepTests, atPlace, takeRecord, following}
-use Rattle.model.specs.Step.{steppedOf}
-use Rattle.model.specs.Code.{Columns, testedOf, Gives}
+use Rattle.model.specs.Code.{Columns, testedOf, Gives, steppedOf}
 use Rattle.model.proofs.Fields.{or-left, or-right, known-test, range-test, zero-test}
 use Rattle.model.proofs.Bools.{false-true}
 use Rattle.model.proofs.InOrder.{in-order-more, in-order-stop, file-whole, file-not-whole}
@@ -82,7 +81,7 @@ module _ (trace : List ℕ) (i : ℕ) (v : Verdict) (n : Due trace i v) where
     where
       go : (r : Attempt) → atPlace i (steppedOf r (machineOf g m′)) ≡ testedOf (verdictAt i r) (machineOf g m′)
       go Taken = refl
-      go (Turned c) = refl
+      go (Turned why) = refl
 
 misread : (i : ℕ) (e : Record) (why : Refusal) (place : ℕ) → Gives (Refused why place) (stepTests e) i → (m : Machine) → takeRecord i m e ≡ refused (numberOf why) place
 unfolding takeRecord andThen

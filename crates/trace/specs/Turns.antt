@@ -8,7 +8,6 @@ use Rattle.model.specs.declared.record.Record.{Record}
 use Rattle.model.specs.declared.answer.Attempt.{Attempt}
 use Rattle.model.specs.declared.answer.Attempt.the-variants.{Taken, Turned}
 use Rattle.model.specs.declared.answer.Refusal.{Refusal}
-use Rattle.model.specs.declared.answer.Refusal.the-variants.{StepTurned}
 use Rattle.model.specs.declared.answer.Verdict.{Verdict}
 use Rattle.model.specs.declared.answer.Verdict.the-variants.{Passed, Refused}
 use Rattle.model.specs.Record.{recordAt, recordsFrom}
@@ -23,7 +22,7 @@ use Rattle.trace.specs.Follows.{Follows}
 -- the verdict of an attempt of step i
 abbrev pub verdictAt : ℕ → Attempt → Verdict
 verdictAt i Taken = Passed
-verdictAt i (Turned c) = Refused (StepTurned c) i
+verdictAt i (Turned why) = Refused why i
 
 -- record i is to be stepped
 pub record Due (trace : List ℕ) (i : ℕ) (v : Verdict) : Type 0 where

@@ -58,7 +58,7 @@ pub fn verdict_at(i: usize, attempt: Attempt) -> Verdict
 {
     match attempt {
         Attempt::Taken => Verdict::Passed,
-        Attempt::Turned(condition) => Verdict::Refused(Refusal::StepTurned(condition), i),
+        Attempt::Turned(why) => Verdict::Refused(why, i),
     }
 }
 

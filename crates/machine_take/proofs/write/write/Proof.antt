@@ -1,12 +1,12 @@
-use mathlib.Core.Path.{refl, sym, _∙_}
+use mathlib.Core.Path.{refl}
 use Rattle.model.specs.Rules.{conditions}
-use Rattle.model.specs.Step.{judged}
+use Rattle.model.specs.Step.{firstMet}
 use borrow.Author.Needs.{needs}
-use Rattle.machine_take.proofs.write.Statement.{statement}
-use Rattle.machine_take.proofs.write.Tie as tie
+use Rattle.machine_take.proofs.write.write.Statement.{statement}
+use Rattle.machine_take.proofs.write.write.Tie as tie
 
 returns : tie.Need-returns
-unfolding judged conditions
+unfolding firstMet conditions
 returns c =
     let tested = c .before .before .before .before .before .before in
     record {
@@ -18,7 +18,7 @@ returns c =
     }
 
 returns-2 : tie.Need-returns-2
-unfolding judged conditions
+unfolding firstMet conditions
 returns-2 c =
     record { says = rw (← (c .before .before .issued-by .ensures), c .if1 .left); cellsAfter = refl; locationsAfter = refl; valuesAfter = refl; marksAfter = refl }
 

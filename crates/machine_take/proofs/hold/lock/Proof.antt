@@ -1,23 +1,23 @@
 use mathlib.Core.Path.{refl, sym, _∙_}
 use Rattle.model.specs.Rules.{conditions}
-use Rattle.model.specs.Step.{judged}
+use Rattle.model.specs.Step.{firstMet}
 use borrow.Author.Needs.{needs}
-use Rattle.machine_take.proofs.lock.Statement.{statement}
-use Rattle.machine_take.proofs.lock.Tie as tie
+use Rattle.machine_take.proofs.hold.lock.Statement.{statement}
+use Rattle.machine_take.proofs.hold.lock.Tie as tie
 
 returns : tie.Need-returns
-unfolding judged conditions
+unfolding firstMet conditions
 returns c =
     record { says = rw (sym (c .before .blocked .ensures) ∙ c .if1 .taken); marksAfter = refl }
 
 returns-2 : tie.Need-returns-2
-unfolding judged conditions
+unfolding firstMet conditions
 returns-2 c =
     let free = c .before .before .before in
     record { says = rw (sym (free .before .blocked .ensures) ∙ free .if1 .left, sym (c .before .is-empty .ensures) ∙ c .if2 .taken); marksAfter = refl }
 
 returns-3 : tie.Need-returns-3
-unfolding judged conditions
+unfolding firstMet conditions
 returns-3 c =
     let free = c .before .before .before in
     record { says = rw (sym (free .before .blocked .ensures) ∙ free .if1 .left, sym (c .before .is-empty .ensures) ∙ c .if2 .left); marksAfter = refl }
