@@ -85,7 +85,10 @@ fn every_refusal() {
     let fence = [7, 0, 0, 0, 0, 0, 0, 0];
     let memory = [1, 0, 0, 0, 1, 0, 0, 0];
     let sb = SB.concat();
-    let calls: [(&[u8], &[u8]); 13] = [
+    let fenced = [SB[0], fence].concat();
+    let locked = [[11, 0, 0, 0, 0, 0, 0, 0], [11, 1, 0, 0, 0, 0, 0, 0]].concat();
+    let (lock_0, lock_1) = ([5, 0, 0, 0, 0, 0, 0, 0], [5, 1, 0, 0, 0, 0, 0, 0]);
+    let calls: [(&[u8], &[u8]); 17] = [
         (&[0], &[]),
         (&[12, 0, 0, 0, 0, 0, 0, 0], &[]),
         (&[7, 4, 0, 0, 0, 0, 0, 0], &[]),
@@ -96,11 +99,16 @@ fn every_refusal() {
         (&sb, &[0]),
         (&sb, &[8, 0, 0, 0, 0, 0, 0, 0]),
         (&sb, &[2, 4, 0, 0, 1, 0, 0, 0]),
-        (&sb, &[2, 2, 0, 0, 1, 0, 0, 0]),
         (&sb, &[]),
         (&[], &[]),
+        (&sb, &[2, 2, 0, 0, 1, 0, 0, 0]),
+        (&sb, &[2, 0, 0, 0, 2, 0, 0, 0]),
+        (&locked, &[lock_0, lock_1].concat()),
+        (&fenced, &[W0_X1, [4, 0, 0, 0, 0, 0, 0, 0]].concat()),
+        (&sb, &D0_X1),
     ];
-    for (number, (table, trace)) in (1..).zip(calls) {
+    // 11 is given no more
+    for (number, (table, trace)) in (1..=10).chain(12..).zip(calls) {
         let answer = check(table, trace, &mut []).unwrap_err();
         assert_eq!(answer.why as u64, number);
         assert!(answer
