@@ -7,7 +7,7 @@ use Rattle.model.specs.Calls.{checked, completed}
 use Rattle.model.specs.Sizes.{wordSize}
 use Rattle.ambercell.specs.declared.CAnswer.{CAnswer}
 use Rattle.ambercell.specs.Replies.{replyIn}
-use Rattle.program_cases.specs.Words.{wordsIn, bytesIn}
+use Rattle.case.specs.Words.{wordsIn, bytesIn}
 
 module _ (table trace room words : List ℕ) (answer : CAnswer) (room′ words′ : List ℕ) where
   -- the whole words of the room are checked in; bytes behind them are kept

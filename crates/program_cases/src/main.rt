@@ -1,10 +1,9 @@
 // Answers cases, one after the other: each is read from standard input, and its answer and its room go to standard output.
 // docs/TESTS.md has the form of both.
 mod answer;
-mod head;
-mod part;
-mod words;
+mod cases;
+mod input;
 
 fn main() {
-    answer::answer_all();
+    cases::answer_all();
 }

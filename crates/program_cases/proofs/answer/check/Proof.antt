@@ -5,7 +5,7 @@ use borrow.Author.Needs.{needs}
 use lib.ListN.{length, drop}
 use Rattle.model.specs.Calls.{checked}
 use Rattle.model.specs.Sizes.{wordSize}
-use Rattle.program_cases.specs.Words.{bytesIn}
+use Rattle.case.specs.Words.{bytesIn}
 use Rattle.program_cases.proofs.answer.check.Statement.{statement}
 use Rattle.program_cases.proofs.answer.check.Tie as tie
 

@@ -1,8 +1,8 @@
 use mathlib.Core.Path.{sym}
 use borrow.Author.Needs.{needs}
 use lib.Seq.{length-take-le}
-use Rattle.program_cases.proofs.part.read_part.Statement.{statement}
-use Rattle.program_cases.proofs.part.read_part.Tie as tie
+use Rattle.program_cases.proofs.input.read_part.Statement.{statement}
+use Rattle.program_cases.proofs.input.read_part.Tie as tie
 
 slice-aggregate-read-full : tie.Need-slice-aggregate-read-full
 slice-aggregate-read-full c = sym (length-take-le _ _ (search needs))

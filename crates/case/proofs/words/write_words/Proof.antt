@@ -6,10 +6,10 @@ use borrow.Author.Needs.{needs}
 use lib.ListN.{length, take, drop, getD}
 use Rattle.model.specs.Sizes.{wordSize}
 use Rattle.record.specs.Bytes.{withValue}
-use Rattle.program_cases.specs.Words.{bytesIn}
-use Rattle.program_cases.proofs.Written.{writes-one, writes-all}
-use Rattle.program_cases.proofs.words.write_words.Statement.{statement}
-use Rattle.program_cases.proofs.words.write_words.Tie as tie
+use Rattle.case.specs.Words.{bytesIn}
+use Rattle.case.proofs.Written.{writes-one, writes-all}
+use Rattle.case.proofs.words.write_words.Statement.{statement}
+use Rattle.case.proofs.words.write_words.Tie as tie
 
 abbrev Inv-loop : tie.InvT-loop
 Inv-loop bytes₀ words i₀ bytes i = (i ≤ length words) × (length bytes ≡ length bytes₀) × (bytes ≡ bytesIn (take i words) ++ drop (i * wordSize) bytes₀)

@@ -1,13 +1,12 @@
 // The head of a case: which call, and the bytes of its table, its trace and its room.
 ghost use mathlib.Core.Path.{_≡_};
 ghost use lib.ListN.{length};
-ghost use Rattle.program_cases.specs.Parts.{Fits, noHead, headIn};
-use crate::part::MOST;
-use crate::part::complain;
-use crate::part::complain_cut;
-use libc::STDIN_FILENO;
+ghost use Rattle.case.specs.Parts.{Fits, noHead, headIn};
 use record::bytes::WORD;
 use record::bytes::value_at;
+
+// The most bytes of a table, a trace or a room.
+pub const MOST: usize = 1048576;
 
 pub struct Head {
     pub whole: bool,
@@ -32,7 +31,7 @@ impl Head {
     pub const FINISH: u32 = 1;
 
     // Of no case.
-    fn none() -> Head
+    pub fn none() -> Head
         ensures { λ r. ⌜ r ≡ noHead ⌝ }
         ensures { λ r. do ⌜ Fits (← ⟦MOST⟧ .entry) r ⌝ }
     {
@@ -65,26 +64,4 @@ pub fn head_of(bytes: &[u8]) -> Head
         };
     }
     Head::none()
-}
-
-// Of the next case that can be answered, if there is one.
-pub fn read_head() -> Head
-    ensures { λ r. do ⌜ Fits (← ⟦MOST⟧ .entry) r ⌝ }
-{
-    let mut bytes = [0u8; Head::BYTES];
-    let came = io::read_full(STDIN_FILENO, &mut bytes);
-    if came == 0 {
-        return Head::none();
-    }
-    if came < Head::BYTES {
-        complain_cut();
-        return Head::none();
-    }
-    let head = head_of(&bytes);
-    if !head.whole {
-        complain(
-            b"cases: a call is 0 or 1, and a table, a trace or a room has at most 1048576 bytes\n",
-        );
-    }
-    head
 }

@@ -4,10 +4,10 @@ use mathlib.Core.List.{_++_}
 use Prim.Native.Nat.{_≤_, _-_}
 use borrow.Author.Needs.{needs}
 use lib.ListN.{length, drop, set}
-use Rattle.program_cases.specs.Words.{wordsIn}
-use Rattle.program_cases.proofs.Written.{reads-one, reads-all}
-use Rattle.program_cases.proofs.words.read_words.Statement.{statement}
-use Rattle.program_cases.proofs.words.read_words.Tie as tie
+use Rattle.case.specs.Words.{wordsIn}
+use Rattle.case.proofs.Written.{reads-one, reads-all}
+use Rattle.case.proofs.words.read_words.Statement.{statement}
+use Rattle.case.proofs.words.read_words.Tie as tie
 
 abbrev Inv-loop : tie.InvT-loop
 Inv-loop words₀ bytes i₀ words i = (i ≤ length words₀) × (length words ≡ length words₀) × (words ≡ wordsIn bytes i ++ drop i words₀)

@@ -11,7 +11,7 @@ use Rattle.model.specs.Sizes.{wordSize}
 use Rattle.model.specs.Record.{valueAt, fourBytes}
 use Rattle.record.specs.Bytes.{withValue}
 use Rattle.record.proofs.Stores.{next}
-use Rattle.program_cases.specs.Words.{wordsIn, bytesIn}
+use Rattle.case.specs.Words.{wordsIn, bytesIn}
 
 -- ---- words that are read
 

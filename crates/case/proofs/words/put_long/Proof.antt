@@ -4,9 +4,9 @@ use Prim.Native.Nat.{ℕ, _+_, _/_}
 use borrow.Author.Needs.{needs}
 use Rattle.model.specs.Sizes.{wordSize, values}
 use Rattle.record.specs.Bytes.{withValue}
-use Rattle.program_cases.specs.Words.{withLong}
-use Rattle.program_cases.proofs.words.put_long.Statement.{statement}
-use Rattle.program_cases.proofs.words.put_long.Tie as tie
+use Rattle.case.specs.Words.{withLong}
+use Rattle.case.proofs.words.put_long.Statement.{statement}
+use Rattle.case.proofs.words.put_long.Tie as tie
 
 returns : tie.Need-returns
 unfolding withLong

@@ -5,7 +5,7 @@ use Prim.Native.Nat.{ℕ, _*_, _≤_}
 use lib.Dec.{leb}
 use Rattle.model.specs.Sizes.{wordSize}
 use Rattle.model.specs.Record.{valueAt}
-use Rattle.program_cases.specs.declared.head.Head.{Head}
+use Rattle.case.specs.declared.head.Head.{Head}
 
 -- its parts are no longer than the room for them
 abbrev pub Fits : ℕ → Head → Type 0

@@ -5,8 +5,8 @@ use Prim.Native.Nat.{ℕ}
 use lib.Dec.{leb}
 use borrow.Author.Tests.{leb-true}
 use Rattle.model.proofs.Bools.{and-left, and-right}
-use Rattle.program_cases.specs.declared.head.Head.{Head}
-use Rattle.program_cases.specs.Parts.{Fits, noHead, headOf}
+use Rattle.case.specs.declared.head.Head.{Head}
+use Rattle.case.specs.Parts.{Fits, noHead, headOf}
 
 module _ (last most call table trace room : ℕ) where
   abbrev head : Head

@@ -3,20 +3,10 @@ ghost use mathlib.Core.Path.{_≡_};
 ghost use mathlib.Core.List.{_++_};
 ghost use Prim.Native.Nat.{_+_, _*_, _≤_};
 ghost use lib.ListN.{length, drop};
-ghost use Rattle.program_cases.specs.Words.{wordsIn, bytesIn, withLong};
-use crate::part;
+ghost use Rattle.case.specs.Words.{wordsIn, bytesIn, withLong};
 use record::bytes::WORD;
 use record::bytes::put_value;
 use record::bytes::value_at;
-
-// The words of a room.
-const MOST: usize = part::MOST / WORD;
-
-pub fn zero_words() -> [u32; MOST]
-    ensures { λ r. do ⌜ (← ⟦MOST⟧ .entry) ≡ length r ⌝ }
-{
-    [0; MOST]
-}
 
 // The bytes of a number of two words, and what its second word counts.
 pub const LONG: usize = WORD + WORD;

@@ -1,9 +1,9 @@
 use mathlib.Core.Path.{_≡_, _∙_}
 use borrow.Author.Needs.{needs}
-use Rattle.program_cases.specs.Parts.{headOf, headIn}
-use Rattle.program_cases.proofs.Heads.{of-case, of-none}
-use Rattle.program_cases.proofs.head.head_of.Statement.{statement}
-use Rattle.program_cases.proofs.head.head_of.Tie as tie
+use Rattle.case.specs.Parts.{headOf, headIn}
+use Rattle.case.proofs.Heads.{of-case, of-none}
+use Rattle.case.proofs.head.head_of.Statement.{statement}
+use Rattle.case.proofs.head.head_of.Tie as tie
 
 -- the four words are those of the bytes
 words : (c : tie.After-value-at4) → headOf 1 1048576 (c .before .before .before .value-at .result) (c .before .before .value-at2 .result) (c .before .value-at3 .result) (c .value-at4 .result)
