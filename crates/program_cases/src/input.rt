@@ -45,7 +45,7 @@ pub fn read_part(part: &mut [u8], n: usize) -> bool
     came == n
 }
 
-// Of the next case that can be answered, if there is one.
+// The head of the next case or, where there is none that can be answered, of none.
 pub fn read_head() -> Head
     ensures { λ r. do ⌜ Fits (← ⟦MOST⟧ .entry) r ⌝ }
 {

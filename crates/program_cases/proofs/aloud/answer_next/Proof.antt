@@ -2,8 +2,8 @@ use mathlib.Core.Path.{sym}
 use borrow.Author.Needs.{needs}
 use lib.Seq.{length-take-le}
 use Rattle.program_cases.proofs.Rooms.{words-within}
-use Rattle.program_cases.proofs.cases.answer_next.Statement.{statement}
-use Rattle.program_cases.proofs.cases.answer_next.Tie as tie
+use Rattle.program_cases.proofs.aloud.answer_next.Statement.{statement}
+use Rattle.program_cases.proofs.aloud.answer_next.Tie as tie
 
 slice-aggregate-answer-aloud : tie.Need-slice-aggregate-answer-aloud
 slice-aggregate-answer-aloud c = sym (length-take-le _ _ (search needs))

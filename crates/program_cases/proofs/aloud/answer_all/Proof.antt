@@ -2,8 +2,8 @@ use mathlib.Core.Path.{_≡_}
 use Prim.Native.Nat.{_≤_, _-_}
 use borrow.Author.Needs.{needs}
 use lib.ListN.{length}
-use Rattle.program_cases.proofs.cases.answer_all.Statement.{statement}
-use Rattle.program_cases.proofs.cases.answer_all.Tie as tie
+use Rattle.program_cases.proofs.aloud.answer_all.Statement.{statement}
+use Rattle.program_cases.proofs.aloud.answer_all.Tie as tie
 
 abbrev Inv-loop : tie.InvT-loop
 Inv-loop table₀ trace₀ room₀ words₀ i₀ table trace room words i =

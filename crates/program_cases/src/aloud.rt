@@ -1,4 +1,4 @@
-// Cases, answered one after the other.
+// Cases, answered one after the other on standard output.
 ghost use mathlib.Core.Path.{_≡_};
 ghost use Prim.Native.Nat.{_*_, _≤_};
 ghost use lib.ListN.{length};
