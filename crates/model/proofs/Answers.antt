@@ -5,7 +5,7 @@ use Prim.Native.Nat.{ℕ}
 use native.Mathlib.Omega.{arith}
 use lib.ListN.{getD}
 use Rattle.model.specs.declared.answer.Refusal.{Refusal}
-use Rattle.model.specs.declared.answer.Refusal.the-variants.{TableLength, TableKind, TableRange, TableUnused, InitialLate, CellTwice, Seventeenth, TraceLength, StepKind, StepField, StepRule, Unfinished, RoomTooSmall}
+use Rattle.model.specs.declared.answer.Refusal.the-variants.{TableLength, TableKind, TableRange, TableUnused, InitialLate, CellTwice, Seventeenth, TraceLength, StepKind, StepField, StepRule, Unfinished, RoomTooSmall, TextGrammar, TextLimit, TextConstant}
 use Rattle.model.specs.declared.answer.Condition.{Condition}
 use Rattle.model.specs.declared.answer.Condition.the-variants.{AnotherKind, NothingWaits, LockHeld, BufferNotEmpty, NotRight}
 use Rattle.model.specs.declared.answer.Answer.{Answer}
@@ -18,7 +18,8 @@ refusalOf : ℕ → Refusal
 refusalOf n =
     getD (TableLength ∷ TableLength ∷ TableKind ∷ TableRange ∷ TableUnused ∷ InitialLate ∷ CellTwice ∷ Seventeenth
     ∷ TraceLength ∷ StepKind ∷ StepField ∷ TableLength ∷ Unfinished ∷ RoomTooSmall
-    ∷ StepRule AnotherKind ∷ StepRule NotRight ∷ StepRule LockHeld ∷ StepRule BufferNotEmpty ∷ StepRule NothingWaits ∷ []) n TableLength
+    ∷ StepRule AnotherKind ∷ StepRule NotRight ∷ StepRule LockHeld ∷ StepRule BufferNotEmpty ∷ StepRule NothingWaits
+    ∷ TextGrammar ∷ TextLimit ∷ TextConstant ∷ []) n TableLength
 
 refusal-back : (r : Refusal) → refusalOf (numberOf r) ≡ r
 unfolding refusalOf
@@ -39,6 +40,9 @@ refusal-back (StepRule BufferNotEmpty) = refl
 refusal-back (StepRule NotRight) = refl
 refusal-back Unfinished = refl
 refusal-back RoomTooSmall = refl
+refusal-back TextGrammar = refl
+refusal-back TextLimit = refl
+refusal-back TextConstant = refl
 
 -- a condition has its own number
 pub one-condition : (c d : Condition) → conditionNumber c ≡ conditionNumber d → c ≡ d

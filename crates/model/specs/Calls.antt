@@ -43,8 +43,8 @@ unfoldable pub tried : List ℕ → List ℕ → Tested Machine
 unfolding reading start following andThen
 tried table trace = andThen (reading table) (λ entries. following (start entries) trace)
 
-unfoldable pub replied : List ℕ → Tested Machine → (Machine → Reply) → Reply
-replied room (passed s) f = f s
+unfoldable pub replied : {A : Type 0} → List ℕ → Tested A → (A → Reply) → Reply
+replied room (passed a) f = f a
 replied room (refused n i) f = refuse n i room
 
 -- `needed` words or bytes are written; room past them keeps its contents

@@ -2,7 +2,7 @@
 use mathlib.Core.List.{List, [], _∷_, _++_}
 use Prim.Native.Nat.{ℕ}
 use Rattle.model.specs.declared.answer.Refusal.{Refusal}
-use Rattle.model.specs.declared.answer.Refusal.the-variants.{TableLength, TableKind, TableRange, TableUnused, InitialLate, CellTwice, Seventeenth, TraceLength, StepKind, StepField, StepRule, Unfinished, RoomTooSmall}
+use Rattle.model.specs.declared.answer.Refusal.the-variants.{TableLength, TableKind, TableRange, TableUnused, InitialLate, CellTwice, Seventeenth, TraceLength, StepKind, StepField, StepRule, Unfinished, RoomTooSmall, TextGrammar, TextLimit, TextConstant}
 use Rattle.model.specs.declared.answer.Answer.{Answer}
 use Rattle.model.specs.declared.answer.Answer.the-variants.{Done, Refused}
 use Rattle.model.specs.Machine.{Machine, Processor}
@@ -44,6 +44,9 @@ numberOf StepField = 10
 numberOf (StepRule c) = conditionNumber c
 numberOf Unfinished = 12
 numberOf RoomTooSmall = 13
+numberOf TextGrammar = 19
+numberOf TextLimit = 20
+numberOf TextConstant = 21
 
 abbrev pub replyOf : Answer → List ℕ → Reply
 replyOf (Done place) room = done place room

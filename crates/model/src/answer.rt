@@ -26,9 +26,15 @@ pub enum Refusal {
     StepRule(Condition),
     Unfinished,
     RoomTooSmall,
+    // A litmus text is outside the grammar.
+    TextGrammar,
+    // A ninth location, or a processor above 3.
+    TextLimit,
+    // A constant out of range.
+    TextConstant,
 }
 
-// Done: the steps in the trace when checking, k when finishing. Refused: why, and the place.
+// Done: the steps in the trace when checking, k when finishing, the records of a litmus text. Refused: why, and the place.
 pub enum Answer {
     Done(usize),
     Refused(Refusal, usize),

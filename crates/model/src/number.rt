@@ -34,5 +34,8 @@ pub fn number(why: Refusal) -> u64
         Refusal::StepRule(condition) => condition_number(condition),
         Refusal::Unfinished => 12,
         Refusal::RoomTooSmall => 13,
+        Refusal::TextGrammar => 19,
+        Refusal::TextLimit => 20,
+        Refusal::TextConstant => 21,
     }
 }
