@@ -20,16 +20,11 @@ use Rattle.model.proofs.Orderly.{orderly-kept}
 use Rattle.model.proofs.Finish.{finishing-allowed}
 use Rattle.model.proofs.Completion.{completion-next, completion-none}
 use Rattle.record.specs.Bytes.{withRecord}
-use Rattle.record.proofs.Stores.{one-more}
+use Rattle.record.proofs.Stores.{file-more, one-more}
 use Rattle.machine_state.specs.State.{State}
 use Rattle.machine.specs.View.{machineOf}
 use Rattle.finish_step.specs.Finishing.{Underway, HasMore, FinishesBy}
 use Rattle.finish_run.specs.Completing.{Completable, completedIn}
-
-file-more : (rs : List Record) (r : Record) → fileOf (rs ++ (r ∷ [])) ≡ fileOf rs ++ bytesOf r
-unfolding fileOf
-file-more [] r = refl
-file-more (q ∷ rs) r = ap (λ (l : List ℕ). bytesOf q ++ l) (file-more rs r)
 
 module _ (g : Columns) (s : State) (k : ℕ) (room : List ℕ) where
   -- i steps are written, and m is the state after them

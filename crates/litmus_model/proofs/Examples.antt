@@ -1,140 +1,110 @@
--- The reader on document 01's small text, and on corners.
+-- The bytes of words, names and blanks; the reader on document 01's small text, on every form, and on corners; and the call.
 use mathlib.Core.Path.{_≡_, refl}
-use mathlib.Core.List.{List, [], _∷_}
-use Prim.Native.Nat.{ℕ}
+use mathlib.Core.Bool.{Bool, cond, not}
+use mathlib.Core.List.{List, [], _∷_, _++_}
+use Prim.Native.Nat.{ℕ, zero, suc}
+use Prim.Native.Char.{code}
+use Prim.Native.String.{String}
 use Rattle.model.specs.declared.record.Record.{Record}
-use Rattle.model.specs.Tests.{passed, refused}
+use Rattle.model.specs.Tests.{Tested, passed, refused}
+use Rattle.model.specs.Reply.{Reply, done, refuse}
+use Rattle.litmus_model.specs.Bytes.{isBlank, inWord, inName, isLocation}
 use Rattle.litmus_model.specs.Reader.{readText}
+use Rattle.litmus_model.specs.Call.{imported}
 
-abbrev rec : (kind processor register location value : ℕ) → Record
+-- a text as its bytes: each character here is one byte
+unfoldable pub bytes : String → List ℕ
+bytes String.[] = []
+bytes (String._∷_ c s) = code c ∷ bytes s
+
+unfoldable pub read : String → Tested (List Record)
+unfolding bytes readText
+read text = readText (bytes text)
+
+unfoldable pub reply : String → List ℕ → Reply
+unfolding bytes imported
+reply text room = imported (bytes text) room
+
+-- kind, processor, register, location, value
+abbrev pub rec : (k p r x v : ℕ) → Record
 rec k p r x v = record { kind = k; processor = p; register = r; location = x; value = v }
 
--- 'X86 SB\n{ x=0; 0:EAX=5; }\n P0          | P1          ;\n MOV [x],$1  | MOV [y],EBX ;\n MFENCE      |             ;\n LOCK XADD [x],EAX | MOV ECX,$-1 ;\nexists (x=1)\n'
-pub small : readText (88 ∷ 56 ∷ 54 ∷ 32 ∷ 83 ∷ 66 ∷ 10 ∷ 123 ∷ 32 ∷ 120 ∷ 61 ∷ 48 ∷ 59 ∷ 32 ∷ 48 ∷ 58 ∷ 69 ∷ 65 ∷ 88 ∷ 61 ∷ 53 ∷ 59 ∷ 32 ∷ 125 ∷ 10 ∷ 32 ∷ 80 ∷ 48 ∷ 32 ∷ 32 ∷ 32 ∷ 32 ∷ 32 ∷ 32 ∷ 32 ∷ 32 ∷ 32 ∷ 32 ∷ 124 ∷ 32 ∷ 80 ∷ 49 ∷ 32 ∷ 32 ∷ 32 ∷ 32 ∷ 32 ∷ 32 ∷ 32 ∷ 32 ∷ 32 ∷ 32 ∷ 59 ∷ 10 ∷ 32 ∷ 77 ∷ 79 ∷ 86 ∷ 32 ∷ 91 ∷ 120 ∷ 93 ∷ 44 ∷ 36 ∷ 49 ∷ 32 ∷ 32 ∷ 124 ∷ 32 ∷ 77 ∷ 79 ∷ 86 ∷ 32 ∷ 91 ∷ 121 ∷ 93 ∷ 44 ∷ 69 ∷ 66 ∷ 88 ∷ 32 ∷ 59 ∷ 10 ∷ 32 ∷ 77 ∷ 70 ∷ 69 ∷ 78 ∷ 67 ∷ 69 ∷ 32 ∷ 32 ∷ 32 ∷ 32 ∷ 32 ∷ 32 ∷ 124 ∷ 32 ∷ 32 ∷ 32 ∷ 32 ∷ 32 ∷ 32 ∷ 32 ∷ 32 ∷ 32 ∷ 32 ∷ 32 ∷ 32 ∷ 32 ∷ 59 ∷ 10 ∷ 32 ∷ 76 ∷ 79 ∷ 67 ∷ 75 ∷ 32 ∷ 88 ∷ 65 ∷ 68 ∷ 68 ∷ 32 ∷ 91 ∷ 120 ∷ 93 ∷ 44 ∷ 69 ∷ 65 ∷ 88 ∷ 32 ∷ 124 ∷ 32 ∷ 77 ∷ 79 ∷ 86 ∷ 32 ∷ 69 ∷ 67 ∷ 88 ∷ 44 ∷ 36 ∷ 45 ∷ 49 ∷ 32 ∷ 59 ∷ 10 ∷ 101 ∷ 120 ∷ 105 ∷ 115 ∷ 116 ∷ 115 ∷ 32 ∷ 40 ∷ 120 ∷ 61 ∷ 49 ∷ 41 ∷ 10 ∷ []) ≡ passed (rec 1 0 0 0 0 ∷ rec 2 0 0 0 5 ∷ rec 3 0 0 0 1 ∷ rec 4 1 1 1 0 ∷ rec 7 0 0 0 0 ∷ rec 11 0 0 0 0 ∷ rec 6 1 2 0 4294967295 ∷ [])
-unfolding readText
+-- ---- bytes
+
+-- those below n of which f holds
+unfoldable pub those : (ℕ → Bool) → ℕ → List ℕ
+those f zero = []
+those f (suc n) = those f n ++ cond (f n) (n ∷ []) []
+
+-- of all bytes: what blanks are, what a word is made of, what no name has, and what a location is
+pub classes : (those isBlank 256 ≡ bytes "\n\r ")
+    × (those inWord 256 ≡ bytes "0123456789ABCDEFGHIJKLMNOPQRSTUVWXYZabcdefghijklmnopqrstuvwxyz")
+    × (those (λ b. not (inName b)) 256 ≡ bytes "\n\r {")
+    × (those (λ b. isLocation (b ∷ [])) 256 ≡ bytes "abcdefghijklmnopqrstuvwxyz")
+unfolding those bytes inWord inName isLocation
+classes = (refl, refl, refl, refl)
+
+-- ---- texts of the grammar
+
+pub small : read "X86 SB\n{ x=0; 0:EAX=5; }\n P0          | P1          ;\n MOV [x],$1  | MOV [y],EBX ;\n MFENCE      |             ;\n LOCK XADD [x],EAX | MOV ECX,$-1 ;\nexists (x=1)\n"
+    ≡ passed (rec 1 0 0 0 0 ∷ rec 2 0 0 0 5 ∷ rec 3 0 0 0 1 ∷ rec 4 1 1 1 0 ∷ rec 7 0 0 0 0 ∷ rec 11 0 0 0 0 ∷ rec 6 1 2 0 4294967295 ∷ [])
+unfolding read
 small = refl
 
--- ''
-pub no-text : readText ([]) ≡ refused 19 0
-unfolding readText
-no-text = refl
+-- all eleven kinds: no theorem but this one tells kinds with the same fields apart
+pub every-form : read "X86 all {x=1;3:EDX=2;} P0|P1|P2|P3; MOV [x],$1|MOV [y],EBX|MOV ECX,[z]|MOV EDX,$7; MFENCE|XCHG [x],EAX|LOCK XCHG [y],EBX|XADD [z],ECX; LOCK XADD [w],EDX|||; forall"
+    ≡ passed (rec 1 0 0 0 1 ∷ rec 2 3 3 0 2
+    ∷ rec 3 0 0 0 1 ∷ rec 4 1 1 1 0 ∷ rec 5 2 2 2 0 ∷ rec 6 3 3 0 7
+    ∷ rec 7 0 0 0 0 ∷ rec 8 1 0 0 0 ∷ rec 9 2 1 1 0 ∷ rec 10 3 2 2 0
+    ∷ rec 11 0 3 3 0 ∷ [])
+unfolding read
+every-form = refl
 
--- 'X86{'
-pub no-name : readText (88 ∷ 56 ∷ 54 ∷ 123 ∷ []) ≡ refused 19 3
-unfolding readText
-no-name = refl
+-- blanks in front, a name that touches X86, and a row of one empty cell
+pub empty-cell : read "\r\n X86-SB{}P0;;~exists" ≡ passed []
+unfolding read
+empty-cell = refl
 
--- 'X86-SB{}P0;exists'
-pub touching : readText (88 ∷ 56 ∷ 54 ∷ 45 ∷ 83 ∷ 66 ∷ 123 ∷ 125 ∷ 80 ∷ 48 ∷ 59 ∷ 101 ∷ 120 ∷ 105 ∷ 115 ∷ 116 ∷ 115 ∷ []) ≡ passed ([])
-unfolding readText
-touching = refl
+-- both ends of what a constant may be, leading zeros, and -0
+pub constants : read "X86 n {x=-2147483648; y=004294967295; z=-0;} P0; MOV EAX,$-0; exists"
+    ≡ passed (rec 1 0 0 0 2147483648 ∷ rec 1 0 0 1 4294967295 ∷ rec 1 0 0 2 0 ∷ rec 6 0 0 0 0 ∷ [])
+unfolding read
+constants = refl
 
--- 'X86a {}'
-pub wordy : readText (88 ∷ 56 ∷ 54 ∷ 97 ∷ 32 ∷ 123 ∷ 125 ∷ []) ≡ refused 19 0
-unfolding readText
-wordy = refl
+-- ---- 19, 20 and 21
 
--- 'X86 n {4=1;}'
-pub above : readText (88 ∷ 56 ∷ 54 ∷ 32 ∷ 110 ∷ 32 ∷ 123 ∷ 52 ∷ 61 ∷ 49 ∷ 59 ∷ 125 ∷ []) ≡ refused 20 7
-unfolding readText
-above = refl
+-- one beyond each end; the early 21 comes before a later 19
+pub beyond : (read "X86 n {} P0; MOV EAX,$4294967296; exists" ≡ refused 21 21) × (read "X86 n {x=-2147483649 x" ≡ refused 21 9)
+unfolding read
+beyond = (refl, refl)
 
--- 'X86 n {3=1;}'
-pub three : readText (88 ∷ 56 ∷ 54 ∷ 32 ∷ 110 ∷ 32 ∷ 123 ∷ 51 ∷ 61 ∷ 49 ∷ 59 ∷ 125 ∷ []) ≡ refused 19 8
-unfolding readText
-three = refl
+-- no register follows: but a processor that there is not comes before that
+pub no-register : (read "X86 n {4=1;}" ≡ refused 20 7) × (read "X86 n {3=1;}" ≡ refused 19 8)
+unfolding read
+no-register = (refl, refl)
 
--- 'X86 n {} P0|P1|P2|P3|P4;'
-pub fifth : readText (88 ∷ 56 ∷ 54 ∷ 32 ∷ 110 ∷ 32 ∷ 123 ∷ 125 ∷ 32 ∷ 80 ∷ 48 ∷ 124 ∷ 80 ∷ 49 ∷ 124 ∷ 80 ∷ 50 ∷ 124 ∷ 80 ∷ 51 ∷ 124 ∷ 80 ∷ 52 ∷ 59 ∷ []) ≡ refused 20 21
-unfolding readText
-fifth = refl
-
--- 'X86 n {} P7;'
-pub jump : readText (88 ∷ 56 ∷ 54 ∷ 32 ∷ 110 ∷ 32 ∷ 123 ∷ 125 ∷ 32 ∷ 80 ∷ 55 ∷ 59 ∷ []) ≡ refused 19 9
-unfolding readText
-jump = refl
-
--- 'X86 n {} P00;'
-pub zeros : readText (88 ∷ 56 ∷ 54 ∷ 32 ∷ 110 ∷ 32 ∷ 123 ∷ 125 ∷ 32 ∷ 80 ∷ 48 ∷ 48 ∷ 59 ∷ []) ≡ refused 19 9
-unfolding readText
-zeros = refl
-
--- 'X86 n {} P0|P1; MFENCE;'
-pub too-few : readText (88 ∷ 56 ∷ 54 ∷ 32 ∷ 110 ∷ 32 ∷ 123 ∷ 125 ∷ 32 ∷ 80 ∷ 48 ∷ 124 ∷ 80 ∷ 49 ∷ 59 ∷ 32 ∷ 77 ∷ 70 ∷ 69 ∷ 78 ∷ 67 ∷ 69 ∷ 59 ∷ []) ≡ refused 19 22
-unfolding readText
-too-few = refl
-
--- 'X86 n {} P0; MFENCE|'
-pub too-many : readText (88 ∷ 56 ∷ 54 ∷ 32 ∷ 110 ∷ 32 ∷ 123 ∷ 125 ∷ 32 ∷ 80 ∷ 48 ∷ 59 ∷ 32 ∷ 77 ∷ 70 ∷ 69 ∷ 78 ∷ 67 ∷ 69 ∷ 124 ∷ []) ≡ refused 19 19
-unfolding readText
-too-many = refl
-
--- 'X86 n {} P0; ~exists1'
-pub tilde : readText (88 ∷ 56 ∷ 54 ∷ 32 ∷ 110 ∷ 32 ∷ 123 ∷ 125 ∷ 32 ∷ 80 ∷ 48 ∷ 59 ∷ 32 ∷ 126 ∷ 101 ∷ 120 ∷ 105 ∷ 115 ∷ 116 ∷ 115 ∷ 49 ∷ []) ≡ refused 19 13
-unfolding readText
-tilde = refl
-
--- 'X86 n {x=-2147483648;} P0; MOV EAX,$4294967295; '
-pub missing : readText (88 ∷ 56 ∷ 54 ∷ 32 ∷ 110 ∷ 32 ∷ 123 ∷ 120 ∷ 61 ∷ 45 ∷ 50 ∷ 49 ∷ 52 ∷ 55 ∷ 52 ∷ 56 ∷ 51 ∷ 54 ∷ 52 ∷ 56 ∷ 59 ∷ 125 ∷ 32 ∷ 80 ∷ 48 ∷ 59 ∷ 32 ∷ 77 ∷ 79 ∷ 86 ∷ 32 ∷ 69 ∷ 65 ∷ 88 ∷ 44 ∷ 36 ∷ 52 ∷ 50 ∷ 57 ∷ 52 ∷ 57 ∷ 54 ∷ 55 ∷ 50 ∷ 57 ∷ 53 ∷ 59 ∷ 32 ∷ []) ≡ refused 19 48
-unfolding readText
-missing = refl
-
--- 'X86 n {} P0; MOV EAX,$1a;'
-pub dollar-run : readText (88 ∷ 56 ∷ 54 ∷ 32 ∷ 110 ∷ 32 ∷ 123 ∷ 125 ∷ 32 ∷ 80 ∷ 48 ∷ 59 ∷ 32 ∷ 77 ∷ 79 ∷ 86 ∷ 32 ∷ 69 ∷ 65 ∷ 88 ∷ 44 ∷ 36 ∷ 49 ∷ 97 ∷ 59 ∷ []) ≡ refused 19 21
-unfolding readText
-dollar-run = refl
-
--- 'X86 n {x=- 1;}'
-pub spaced : readText (88 ∷ 56 ∷ 54 ∷ 32 ∷ 110 ∷ 32 ∷ 123 ∷ 120 ∷ 61 ∷ 45 ∷ 32 ∷ 49 ∷ 59 ∷ 125 ∷ []) ≡ refused 19 9
-unfolding readText
-spaced = refl
-
--- 'X86 n {x=1a;}'
-pub one-a : readText (88 ∷ 56 ∷ 54 ∷ 32 ∷ 110 ∷ 32 ∷ 123 ∷ 120 ∷ 61 ∷ 49 ∷ 97 ∷ 59 ∷ 125 ∷ []) ≡ refused 19 9
-unfolding readText
-one-a = refl
-
--- 'X86 n {x=-2147483649; 4'
-pub low : readText (88 ∷ 56 ∷ 54 ∷ 32 ∷ 110 ∷ 32 ∷ 123 ∷ 120 ∷ 61 ∷ 45 ∷ 50 ∷ 49 ∷ 52 ∷ 55 ∷ 52 ∷ 56 ∷ 51 ∷ 54 ∷ 52 ∷ 57 ∷ 59 ∷ 32 ∷ 52 ∷ []) ≡ refused 21 9
-unfolding readText
-low = refl
-
--- 'X86 n {x=0;} P0; MOV EAX,$4294967296;'
-pub high : readText (88 ∷ 56 ∷ 54 ∷ 32 ∷ 110 ∷ 32 ∷ 123 ∷ 120 ∷ 61 ∷ 48 ∷ 59 ∷ 125 ∷ 32 ∷ 80 ∷ 48 ∷ 59 ∷ 32 ∷ 77 ∷ 79 ∷ 86 ∷ 32 ∷ 69 ∷ 65 ∷ 88 ∷ 44 ∷ 36 ∷ 52 ∷ 50 ∷ 57 ∷ 52 ∷ 57 ∷ 54 ∷ 55 ∷ 50 ∷ 57 ∷ 54 ∷ 59 ∷ []) ≡ refused 21 25
-unfolding readText
-high = refl
-
--- 'X86 n {a=0;b=0;c=0;d=0;e=0;f=0;g=0;h=0;} P0;MOV [a],$1;MOV [i],$-0;'
-pub ninth : readText (88 ∷ 56 ∷ 54 ∷ 32 ∷ 110 ∷ 32 ∷ 123 ∷ 97 ∷ 61 ∷ 48 ∷ 59 ∷ 98 ∷ 61 ∷ 48 ∷ 59 ∷ 99 ∷ 61 ∷ 48 ∷ 59 ∷ 100 ∷ 61 ∷ 48 ∷ 59 ∷ 101 ∷ 61 ∷ 48 ∷ 59 ∷ 102 ∷ 61 ∷ 48 ∷ 59 ∷ 103 ∷ 61 ∷ 48 ∷ 59 ∷ 104 ∷ 61 ∷ 48 ∷ 59 ∷ 125 ∷ 32 ∷ 80 ∷ 48 ∷ 59 ∷ 77 ∷ 79 ∷ 86 ∷ 32 ∷ 91 ∷ 97 ∷ 93 ∷ 44 ∷ 36 ∷ 49 ∷ 59 ∷ 77 ∷ 79 ∷ 86 ∷ 32 ∷ 91 ∷ 105 ∷ 93 ∷ 44 ∷ 36 ∷ 45 ∷ 48 ∷ 59 ∷ []) ≡ refused 20 60
-unfolding readText
+pub ninth : read "X86 n {a=0;b=0;c=0;d=0;e=0;f=0;g=0;h=0;} P0; MOV [a],$1; MOV [i],$1;" ≡ refused 20 62
+unfolding read
 ninth = refl
 
--- 'X86 n {} P0;MOV [x],1;'
-pub mov-const : readText (88 ∷ 56 ∷ 54 ∷ 32 ∷ 110 ∷ 32 ∷ 123 ∷ 125 ∷ 32 ∷ 80 ∷ 48 ∷ 59 ∷ 77 ∷ 79 ∷ 86 ∷ 32 ∷ 91 ∷ 120 ∷ 93 ∷ 44 ∷ 49 ∷ 59 ∷ []) ≡ refused 19 20
-unfolding readText
-mov-const = refl
+-- a fifth processor; and where its heading cannot stand: at one byte 19 comes before 20
+pub fifth : (read "X86 n {} P0|P1|P2|P3|P4;" ≡ refused 20 21) × (read "X86 n {} P0|P4;" ≡ refused 19 12)
+unfolding read
+fifth = (refl, refl)
 
--- 'X86 n {} P0;XCHG EAX,[x];'
-pub xchg-other : readText (88 ∷ 56 ∷ 54 ∷ 32 ∷ 110 ∷ 32 ∷ 123 ∷ 125 ∷ 32 ∷ 80 ∷ 48 ∷ 59 ∷ 88 ∷ 67 ∷ 72 ∷ 71 ∷ 32 ∷ 69 ∷ 65 ∷ 88 ∷ 44 ∷ 91 ∷ 120 ∷ 93 ∷ 59 ∷ []) ≡ refused 19 17
-unfolding readText
-xchg-other = refl
+-- ~exists is a token only where no letter or digit follows
+pub tilde : read "X86 n {} P0; ~exists1" ≡ refused 19 13
+unfolding read
+tilde = refl
 
--- 'X86 n {} P0;LOCK MOV [x],$1;'
-pub lock-mov : readText (88 ∷ 56 ∷ 54 ∷ 32 ∷ 110 ∷ 32 ∷ 123 ∷ 125 ∷ 32 ∷ 80 ∷ 48 ∷ 59 ∷ 76 ∷ 79 ∷ 67 ∷ 75 ∷ 32 ∷ 77 ∷ 79 ∷ 86 ∷ 32 ∷ 91 ∷ 120 ∷ 93 ∷ 44 ∷ 36 ∷ 49 ∷ 59 ∷ []) ≡ refused 19 17
-unfolding readText
-lock-mov = refl
+-- ---- the call
 
--- 'X86\tn{}\tP0;'
-pub tab : readText (88 ∷ 56 ∷ 54 ∷ 9 ∷ 110 ∷ 123 ∷ 125 ∷ 9 ∷ 80 ∷ 48 ∷ 59 ∷ []) ≡ refused 19 7
-unfolding readText
-tab = refl
+pub twice : reply "X86 n {x=0;y=0;x=1;} P0; exists" [] ≡ refuse 6 2 []
+unfolding reply
+twice = refl
 
--- 'X86 n{007:EDX=1;'
-pub digits-heading : readText (88 ∷ 56 ∷ 54 ∷ 32 ∷ 110 ∷ 123 ∷ 48 ∷ 48 ∷ 55 ∷ 58 ∷ 69 ∷ 68 ∷ 88 ∷ 61 ∷ 49 ∷ 59 ∷ []) ≡ refused 20 6
-unfolding readText
-digits-heading = refl
-
--- every form: 'X86 all {x=1;3:EDX=2;} P0|P1|P2|P3; MOV [x],$1|MOV [y],EBX|MOV ECX,[z]|MOV EDX,$7; MFENCE|XCHG [x],EAX|LOCK XCHG [y],EBX|XADD [z],ECX; LOCK XADD [w],EDX|||; forall'
-pub every-form : readText (88 ∷ 56 ∷ 54 ∷ 32 ∷ 97 ∷ 108 ∷ 108 ∷ 32 ∷ 123 ∷ 120 ∷ 61 ∷ 49 ∷ 59 ∷ 51 ∷ 58 ∷ 69 ∷ 68 ∷ 88 ∷ 61 ∷ 50 ∷ 59 ∷ 125 ∷ 32 ∷ 80 ∷ 48 ∷ 124 ∷ 80 ∷ 49 ∷ 124 ∷ 80 ∷ 50 ∷ 124 ∷ 80 ∷ 51 ∷ 59 ∷ 32 ∷ 77 ∷ 79 ∷ 86 ∷ 32 ∷ 91 ∷ 120 ∷ 93 ∷ 44 ∷ 36 ∷ 49 ∷ 124 ∷ 77 ∷ 79 ∷ 86 ∷ 32 ∷ 91 ∷ 121 ∷ 93 ∷ 44 ∷ 69 ∷ 66 ∷ 88 ∷ 124 ∷ 77 ∷ 79 ∷ 86 ∷ 32 ∷ 69 ∷ 67 ∷ 88 ∷ 44 ∷ 91 ∷ 122 ∷ 93 ∷ 124 ∷ 77 ∷ 79 ∷ 86 ∷ 32 ∷ 69 ∷ 68 ∷ 88 ∷ 44 ∷ 36 ∷ 55 ∷ 59 ∷ 32 ∷ 77 ∷ 70 ∷ 69 ∷ 78 ∷ 67 ∷ 69 ∷ 124 ∷ 88 ∷ 67 ∷ 72 ∷ 71 ∷ 32 ∷ 91 ∷ 120 ∷ 93 ∷ 44 ∷ 69 ∷ 65 ∷ 88 ∷ 124 ∷ 76 ∷ 79 ∷ 67 ∷ 75 ∷ 32 ∷ 88 ∷ 67 ∷ 72 ∷ 71 ∷ 32 ∷ 91 ∷ 121 ∷ 93 ∷ 44 ∷ 69 ∷ 66 ∷ 88 ∷ 124 ∷ 88 ∷ 65 ∷ 68 ∷ 68 ∷ 32 ∷ 91 ∷ 122 ∷ 93 ∷ 44 ∷ 69 ∷ 67 ∷ 88 ∷ 59 ∷ 32 ∷ 76 ∷ 79 ∷ 67 ∷ 75 ∷ 32 ∷ 88 ∷ 65 ∷ 68 ∷ 68 ∷ 32 ∷ 91 ∷ 119 ∷ 93 ∷ 44 ∷ 69 ∷ 68 ∷ 88 ∷ 124 ∷ 124 ∷ 124 ∷ 59 ∷ 32 ∷ 102 ∷ 111 ∷ 114 ∷ 97 ∷ 108 ∷ 108 ∷ []) ≡ passed (rec 1 0 0 0 1 ∷ rec 2 3 3 0 2 ∷ rec 3 0 0 0 1 ∷ rec 4 1 1 1 0 ∷ rec 5 2 2 2 0 ∷ rec 6 3 3 0 7 ∷ rec 7 0 0 0 0 ∷ rec 8 1 0 0 0 ∷ rec 9 2 1 1 0 ∷ rec 10 3 2 2 0 ∷ rec 11 0 3 3 0 ∷ [])
-unfolding readText
-every-form = refl
+-- a record of eight bytes, in nine and in seven
+pub written : (reply "X86 n {x=258;} P0; exists" (9 ∷ 9 ∷ 9 ∷ 9 ∷ 9 ∷ 9 ∷ 9 ∷ 9 ∷ 9 ∷ []) ≡ done 1 (1 ∷ 0 ∷ 0 ∷ 0 ∷ 2 ∷ 1 ∷ 0 ∷ 0 ∷ 9 ∷ []))
+    × (reply "X86 n {x=258;} P0; exists" (9 ∷ 9 ∷ 9 ∷ 9 ∷ 9 ∷ 9 ∷ 9 ∷ []) ≡ refuse 13 8 (9 ∷ 9 ∷ 9 ∷ 9 ∷ 9 ∷ 9 ∷ 9 ∷ []))
+unfolding reply
+written = (refl, refl)

@@ -16,7 +16,8 @@ use Rattle.model.specs.Lists.{In}
 use Rattle.litmus_model.specs.Grammar.{Said, said}
 use Rattle.model.specs.Tests.{Tested, passed, refused, unless}
 use Rattle.litmus_model.specs.Answers.{among, letters, seenOn, seenAll, numberIn, numbered, recordOf, recordsOf}
-use Rattle.litmus_model.specs.Reader.{mentionIn, Progress, halted, going, closed, progress, Context, braces, row, formsIn, draftIn, next, Control, atStart, atName, atOpening, atEnd, beginning, within, atHeading, behindHeading, Stepped, stuck, went, leaves, left, onWith, step, fault, isAtEnd, readFrom, readTokens, carried}
+use Rattle.litmus_model.specs.Reader.{Progress, halted, going, closed, progress, Context, braces, row, formsIn, draftIn}
+use Rattle.litmus_model.specs.Reader.{Control, atStart, atName, atOpening, atEnd, beginning, within, atHeading, behindHeading, Stepped, stuck, went, leaves, left, onWith, step, fault, isAtEnd, readFrom, readTokens, carried}
 use Rattle.litmus_model.proofs.Bools.{false-true}
 use Rattle.litmus_model.proofs.Forms.{in-left, in-right}
 use Rattle.litmus_model.proofs.Progress.{went-on, closed-by}
@@ -43,7 +44,7 @@ ControlIn seen (within c fs d) = LetterIn seen (d .letter)
 ControlIn seen (atHeading n) = Unit {0}
 ControlIn seen (behindHeading n) = Unit {0}
 
-keeps : (seen : List ℕ) (m : Mention) (x : ℕ) → In x seen → In x (seenOn seen m)
+pub keeps : (seen : List ℕ) (m : Mention) (x : ℕ) → In x seen → In x (seenOn seen m)
 unfolding seenOn
 keeps seen nothing x i = i
 keeps seen (aProcessor p) x i = i
@@ -55,7 +56,7 @@ keeps seen (aLocation y) x i = go (among y seen)
     go false = in-left x seen (y ∷ []) i
 keeps seen (aConstant v) x i = i
 
-has : (seen : List ℕ) (x : ℕ) → In x (seenOn seen (aLocation x))
+pub has : (seen : List ℕ) (x : ℕ) → In x (seenOn seen (aLocation x))
 unfolding seenOn
 has seen x = go (among x seen) refl
   where
@@ -116,7 +117,7 @@ records-stay : (seen : List ℕ) (m : Mention) (es : List Entry) → AllIn seen 
 records-stay seen m [] a = refl
 records-stay seen m (e ∷ es) a = λ j. record-stays seen m e (a .0) j ∷ records-stay seen m es (a .1) j
 
-map-append : {A B : Type 0} (f : A → B) (l k : List A) → map f (l ++ k) ≡ map f l ++ map f k
+pub map-append : {A B : Type 0} (f : A → B) (l k : List A) → map f (l ++ k) ≡ map f l ++ map f k
 map-append f [] k = refl
 map-append f (a ∷ l) k = ap (λ r. f a ∷ r) (map-append f l k)
 
@@ -202,15 +203,15 @@ step-in seen (behindHeading n) t {c₁} {m} {fs} i e = go (same bar t) e
 
 -- ---- the two readings
 
-follow-end : (size : ℕ) (c : Control) (seen : List ℕ) (rs : List Record) → carried size c seen rs [] ≡ cond (isAtEnd c) (passed rs) (refused 19 size)
+pub follow-end : (size : ℕ) (c : Control) (seen : List ℕ) (rs : List Record) → carried size c seen rs [] ≡ cond (isAtEnd c) (passed rs) (refused 19 size)
 unfolding carried
 follow-end size c seen rs = refl
 
-follow-stuck : (size : ℕ) (c : Control) (seen : List ℕ) (rs : List Record) (t : Placed) (ts : List Placed) → step c (t .token) ≡ stuck → carried size c seen rs (t ∷ ts) ≡ refused 19 (t .at)
+pub follow-stuck : (size : ℕ) (c : Control) (seen : List ℕ) (rs : List Record) (t : Placed) (ts : List Placed) → step c (t .token) ≡ stuck → carried size c seen rs (t ∷ ts) ≡ refused 19 (t .at)
 unfolding carried
 follow-stuck size c seen rs t ts e = rw (e, carried)
 
-follow-went : (size : ℕ) (c : Control) (seen : List ℕ) (rs : List Record) (t : Placed) (ts : List Placed) (c₁ : Control) (m : Mention) (fs : List Entry) → step c (t .token) ≡ went c₁ m fs
+pub follow-went : (size : ℕ) (c : Control) (seen : List ℕ) (rs : List Record) (t : Placed) (ts : List Placed) (c₁ : Control) (m : Mention) (fs : List Entry) → step c (t .token) ≡ went c₁ m fs
     → carried size c seen rs (t ∷ ts) ≡ unless (fault seen m) (t .at) (carried size c₁ (seenOn seen m) (rs ++ map (recordOf (seenOn seen m)) fs) ts)
 unfolding carried
 follow-went size c seen rs t ts c₁ m fs e = rw (e, carried)

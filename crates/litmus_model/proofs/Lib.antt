@@ -17,3 +17,9 @@ pub mod Faults
 pub mod Determined
 pub mod Answers
 pub mod Following
+-- ---- the records of a text
+pub mod Drafts
+pub mod Tables
+-- ---- the call
+pub mod Imports
+pub mod Replies

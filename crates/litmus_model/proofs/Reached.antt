@@ -12,7 +12,8 @@ use Rattle.litmus_model.specs.Bytes.{Token, same, isName}
 use Rattle.litmus_model.specs.Forms.{X86, opening, closing, semicolon, bar, Pattern, fits, Mention, nothing, aProcessor, mention, Form, form, cellForms, rowForms, markOf, Draft, blank, noted, Entry, entries, heading, isEnd}
 use Rattle.model.specs.Lists.{In}
 use Rattle.litmus_model.specs.Grammar.{Said, said, plain, Fits, notedAll, Phrase, phrase, Header, header, Cells, Headings, Row, Rows, ignored, Text, text}
-use Rattle.litmus_model.specs.Reader.{advance, mentionIn, complete, Progress, halted, going, closed, progress, Context, braces, row, formsIn, draftIn, next, Control, atStart, atName, atOpening, atEnd, beginning, within, atHeading, behindHeading, Stepped, stuck, went, leaves, left, onWith, step}
+use Rattle.litmus_model.specs.Reader.{advance, mentionIn, complete, Progress, halted, going, closed, progress, Context, braces, row, formsIn, draftIn, next}
+use Rattle.litmus_model.specs.Reader.{Control, atStart, atName, atOpening, atEnd, beginning, within, atHeading, behindHeading, Stepped, stuck, went, leaves, left, onWith, step}
 use Rattle.litmus_model.proofs.Bools.{false-true, or-cases, same-true, same-refl}
 use Rattle.litmus_model.proofs.Forms.{Separate, advance-out, separate-on, complete-in, mention-in}
 use Rattle.litmus_model.proofs.Progress.{Went, went-on, Closed, closed-by, forms-separate}

@@ -12,21 +12,21 @@ use Rattle.litmus_model.specs.Tokens.{Placed, PieceAt, TokensFrom, none,
 use Rattle.litmus_model.specs.Splitting.{behindIn, tokensFrom, tokens}
 use Rattle.litmus_model.proofs.Pieces.{Here, piece-at, fits-at, here-at}
 
-abbrev placed : ℕ → Token → Placed
+abbrev pub placed : ℕ → Token → Placed
 placed i t = record { at = i; token = t }
 
 -- ---- the function, step by step
 
-on-blank : (k i b : ℕ) (bs : List ℕ) → isBlank b ≡ true → tokensFrom k 0 i (b ∷ bs) ≡ tokensFrom k 0 (suc i) bs
+pub on-blank : (k i b : ℕ) (bs : List ℕ) → isBlank b ≡ true → tokensFrom k 0 i (b ∷ bs) ≡ tokensFrom k 0 (suc i) bs
 unfolding tokensFrom
 on-blank k i b bs e = rw (e, tokensFrom)
 
-on-token : (k i b : ℕ) (bs : List ℕ) → isBlank b ≡ false → tokensFrom k 0 i (b ∷ bs) ≡ placed i (b ∷ take (behindIn k b bs) bs) ∷ tokensFrom (suc k) (behindIn k b bs) (suc i) bs
+pub on-token : (k i b : ℕ) (bs : List ℕ) → isBlank b ≡ false → tokensFrom k 0 i (b ∷ bs) ≡ placed i (b ∷ take (behindIn k b bs) bs) ∷ tokensFrom (suc k) (behindIn k b bs) (suc i) bs
 unfolding tokensFrom
 on-token k i b bs e = rw (e, tokensFrom)
 
 -- bytes of the token before
-skipped : (k n i : ℕ) (bs : List ℕ) → tokensFrom k n i bs ≡ tokensFrom k 0 (i + n) (drop n bs)
+pub skipped : (k n i : ℕ) (bs : List ℕ) → tokensFrom k n i bs ≡ tokensFrom k 0 (i + n) (drop n bs)
 unfolding tokensFrom
 skipped k zero i bs = ap (λ (j : ℕ). tokensFrom k 0 j bs) (omega arith)
 skipped k (suc n) i [] = refl

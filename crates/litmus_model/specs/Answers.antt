@@ -8,6 +8,7 @@ use lib.ListN.{length}
 use lib.Dec.{eqb}
 use lib.IntN.{ℤ, pos, negsuc}
 use Rattle.model.specs.declared.record.Record.{Record}
+use Rattle.model.specs.Sizes.{processors, locations}
 use Rattle.model.specs.Lists.{In}
 use Rattle.model.specs.Tests.{Tested, passed, refused}
 use Rattle.litmus_model.specs.Tokens.{Placed, Tokens}
@@ -66,8 +67,8 @@ InRange (negsuc n) = suc n ≤ 2147483648
 
 -- what is wrong with what a token says, where these letters are seen before it
 pub data Wrong (seen : List ℕ) : Mention → ℕ → Type 0 where
-  processorAbove : {p : ℕ} → 4 ≤ p → Wrong seen (aProcessor p) 20
-  ninth : {x : ℕ} → ¬ In x seen → 8 ≤ length seen → Wrong seen (aLocation x) 20
+  processorAbove : {p : ℕ} → processors ≤ p → Wrong seen (aProcessor p) 20
+  ninth : {x : ℕ} → ¬ In x seen → locations ≤ length seen → Wrong seen (aLocation x) 20
   outOfRange : {v : ℤ} → ¬ InRange v → Wrong seen (aConstant v) 21
 
 -- nothing is wrong, where these letters are seen before

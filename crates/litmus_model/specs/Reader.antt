@@ -7,6 +7,7 @@ use lib.ListN.{length}
 use lib.Dec.{eqb, leb, ltb}
 use lib.IntN.{ℤ, pos, negsuc}
 use Rattle.model.specs.declared.record.Record.{Record}
+use Rattle.model.specs.Sizes.{processors, locations}
 use Rattle.model.specs.Tests.{Tested, passed, refused, unless}
 use Rattle.litmus_model.specs.Bytes.{Token, same, isName}
 use Rattle.litmus_model.specs.Tokens.{Placed}
@@ -142,9 +143,9 @@ inRange (negsuc n) = ltb n 2147483648
 unfoldable pub fault : List ℕ → Mention → Option ℕ
 unfolding among inRange
 fault seen nothing = none
-fault seen (aProcessor p) = cond (leb 4 p) (some 20) none
+fault seen (aProcessor p) = cond (leb processors p) (some 20) none
 fault seen (aRegister r) = none
-fault seen (aLocation x) = cond (among x seen) none (cond (leb 8 (length seen)) (some 20) none)
+fault seen (aLocation x) = cond (among x seen) none (cond (leb locations (length seen)) (some 20) none)
 fault seen (aConstant v) = cond (inRange v) none (some 21)
 
 unfoldable pub isAtEnd : Control → Bool

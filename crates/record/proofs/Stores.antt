@@ -1,5 +1,5 @@
 -- Bytes set in turn are a value, or a record; and pieces written one behind the other.
-use mathlib.Core.Path.{_≡_, ap, sym, _∙_}
+use mathlib.Core.Path.{_≡_, refl, ap, sym, _∙_}
 use mathlib.Core.List.{List, [], _∷_, _++_}
 use Prim.Native.Nat.{ℕ, suc, _+_, _*_, _/_, _%_, _≤_}
 use native.Mathlib.Omega.{arith}
@@ -7,7 +7,7 @@ use lib.ListN.{length, drop, set, length-set}
 use lib.Seq.{sets, sets-eq, take-at, drop-append-add, drop-drop}
 use Rattle.model.specs.declared.record.Record.{Record}
 use Rattle.model.specs.Sizes.{recordSize}
-use Rattle.model.specs.Record.{fourBytes, bytesOf}
+use Rattle.model.specs.Record.{fourBytes, bytesOf, fileOf}
 use Rattle.record.specs.Bytes.{with, withValue, withRecord}
 
 module _ (at : ℕ) where
@@ -50,6 +50,12 @@ next front room these at e = λ k. take-at front (drop at room) at e k ++ these 
     tail =
         ap (λ (n : ℕ). drop (n + length these) (front ++ drop at room)) (sym e) ∙ drop-append-add front (drop at room) (length these)
         ∙ drop-drop (length these) at room
+
+-- a file with one record more
+pub file-more : (rs : List Record) (r : Record) → fileOf (rs ++ (r ∷ [])) ≡ fileOf rs ++ bytesOf r
+unfolding fileOf
+file-more [] r = refl
+file-more (q ∷ rs) r = ap (λ (l : List ℕ). bytesOf q ++ l) (file-more rs r)
 
 -- i records are written: one record more
 pub one-more : (front room : List ℕ) (i : ℕ) (r : Record) → length front ≡ i * recordSize

@@ -1,0 +1,4 @@
+pub mod Codes
+pub mod Alives
+pub mod Alive
+pub mod Places

@@ -1,0 +1,3 @@
+pub mod Passing
+pub mod Keeping
+pub mod Forming

@@ -1,0 +1,4 @@
+pub mod Values
+pub mod Constants
+pub mod Letters
+pub mod Saying
