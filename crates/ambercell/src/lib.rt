@@ -1,9 +1,11 @@
 // The calls for C, C++ and Rust, as include/ambercell.h declares them: a slice is a pointer and a length there.
 ghost use mathlib.Core.Path.{_≡_};
 ghost use Rattle.model.specs.Calls.{checked, completed};
+ghost use Rattle.litmus_model.specs.Call.{imported};
 ghost use Rattle.ambercell.specs.Replies.{replyIn, Tells};
 use checker::check;
 use checker::finish;
+use litmus::litmus;
 use model::answer::Answer;
 use model::number::number;
 
@@ -41,4 +43,11 @@ pub extern "C" fn ambercell_finish(table: &[u8], trace: &[u8], room: &mut [u8]) 
     ensures { λ r. ⌜ replyIn r (now (room .exit)) ≡ completed (now (table .entry)) (now (trace .entry)) (now (room .entry)) ⌝ }
 {
     numbered(finish::finish(table, trace, room))
+}
+
+#[no_mangle]
+pub extern "C" fn ambercell_litmus(text: &[u8], room: &mut [u8]) -> CAnswer
+    ensures { λ r. ⌜ replyIn r (now (room .exit)) ≡ imported (now (text .entry)) (now (room .entry)) ⌝ }
+{
+    numbered(litmus::litmus(text, room))
 }

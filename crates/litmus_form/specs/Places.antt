@@ -5,6 +5,7 @@ use Prim.Native.Nat.{ℕ, suc, _≤_, _<_}
 use lib.ListN.{replicate}
 use lib.Dec.{eqb}
 use Rattle.model.specs.declared.record.Record.{Record}
+use Rattle.model.specs.Sizes.{processors}
 use Rattle.litmus_model.specs.Reader.{Context, braces, row}
 use Rattle.litmus_form.specs.declared.place.Place.{Place}
 use Rattle.litmus_form.specs.declared.place.Place.the-variants.{Braces, Row}
@@ -13,10 +14,10 @@ abbrev pub contextOf : Place → Context
 contextOf Braces = braces
 contextOf (Row n p) = row n p
 
--- one of at most four cells
+-- one of the cells, of which there are at most as many as processors
 abbrev pub Sound : Place → Type 0
 Sound Braces = Unit {0}
-Sound (Row n p) = (p < n) × (n ≤ 4)
+Sound (Row n p) = (p < n) × (n ≤ processors)
 
 abbrev pub markIn : Place → ℕ
 markIn Braces = 59

@@ -18,10 +18,10 @@ use crate::patterns::fits_code;
 pub const COUNT: usize = 12;
 
 // The most patterns of a form.
-pub const LONGEST: usize = 8;
+const LONGEST: usize = 8;
 
 // Two of initial cells, ten of a row's cell; zeros fill up.
-const FORMS: [[u8; 8]; 12] = [
+const FORMS: [[u8; LONGEST]; COUNT] = [
     [LOCATION, b'=', CONSTANT, b';', 0, 0, 0, 0],
     [PROCESSOR, b':', REGISTER, b'=', CONSTANT, b';', 0, 0],
     [MARK, 0, 0, 0, 0, 0, 0, 0],
@@ -37,9 +37,9 @@ const FORMS: [[u8; 8]; 12] = [
 ];
 
 // The kind of record that each gives; an empty cell none.
-pub const KINDS: [u8; 12] = [1, 2, 0, 3, 4, 5, 6, 7, 8, 9, 10, 11];
+pub const KINDS: [u8; COUNT] = [1, 2, 0, 3, 4, 5, 6, 7, 8, 9, 10, 11];
 
-pub const LENGTHS: [usize; 12] = [4, 6, 1, 7, 7, 7, 5, 2, 7, 8, 7, 8];
+pub const LENGTHS: [usize; COUNT] = [4, 6, 1, 7, 7, 7, 5, 2, 7, 8, 7, 8];
 
 // Pattern `at` of form j, where `mark` closes a row's cell.
 pub fn code_at(mark: u8, j: usize, at: usize) -> u8
@@ -54,13 +54,13 @@ pub fn code_at(mark: u8, j: usize, at: usize) -> u8
 }
 
 // The forms that are still alive behind the token, which is their token `at`.
-pub fn advance(alive: [bool; 12], mark: u8, at: usize, t: &[u8]) -> [bool; 12]
+pub fn advance(alive: [bool; COUNT], mark: u8, at: usize, t: &[u8]) -> [bool; COUNT]
     requires { ⌜ at < 8 ⌝ }
     ensures { λ r. ⌜ Advanced alive mark at (now (t .entry)) r ⌝ }
 {
-    let mut next = [false; 12];
+    let mut next = [false; COUNT];
     let mut j = 0;
-    while j < 12 {
+    while j < COUNT {
         let code = code_at(mark, j, at);
         let fitting = fits_code(code, t);
         next[j] = alive[j] & fitting;
@@ -69,16 +69,16 @@ pub fn advance(alive: [bool; 12], mark: u8, at: usize, t: &[u8]) -> [bool; 12]
     next
 }
 
-// The first form that is alive; 12: none is.
-pub fn first_alive(alive: [bool; 12]) -> usize
+// The first form that is alive; COUNT: none is.
+pub fn first_alive(alive: [bool; COUNT]) -> usize
     ensures { λ r. ⌜ First alive r ⌝ }
 {
     let mut j = 0;
-    while j < 12 {
+    while j < COUNT {
         if alive[j] {
             return j;
         }
         j += 1;
     }
-    12
+    COUNT
 }

@@ -3,6 +3,7 @@ ghost use mathlib.Core.Path.{_≡_};
 ghost use Rattle.litmus_model.specs.Forms.{isEnd};
 ghost use Rattle.litmus_model.specs.Reader.{leaves};
 ghost use Rattle.litmus_form.specs.Places.{contextOf, Sound, markIn, flagsIn, processorIn, blankIn, nextIn};
+use crate::forms::COUNT;
 use crate::patterns::is_mark;
 use litmus_token::words::same_bytes;
 use model::record::Record;
@@ -29,7 +30,7 @@ pub fn mark_in(place: Place) -> u8
 }
 
 // The forms that may begin there.
-pub fn flags_in(place: Place) -> [bool; 12]
+pub fn flags_in(place: Place) -> [bool; COUNT]
     ensures { λ r. ⌜ r ≡ flagsIn place ⌝ }
 {
     match place {

@@ -4,6 +4,7 @@ use mathlib.Core.List.{List, []}
 use Prim.Native.Nat.{ℕ, _≤_, _<_}
 use lib.ListN.{length}
 use Rattle.model.specs.declared.record.Record.{Record}
+use Rattle.model.specs.Sizes.{processors}
 use Rattle.model.specs.Reply.{numberOf}
 use Rattle.model.specs.Tests.{Tested, refused}
 use Rattle.litmus_model.specs.Reader.{Control, atOpening, beginning, atHeading, row, carried, readText}
@@ -35,7 +36,7 @@ headedOn (headed.Read n at) f = f n at
 headedOn (headed.Refused why place) f = refused (numberOf why) place
 
 abbrev pub HeadedAhead : ℕ → List ℕ → Headed → Type 0
-HeadedAhead at text (headed.Read n j) = (at ≤ j) × (j ≤ length text) × (0 < n) × (n ≤ 4)
+HeadedAhead at text (headed.Read n j) = (at ≤ j) × (j ≤ length text) × (0 < n) × (n ≤ processors)
 HeadedAhead at text (headed.Refused why place) = Unit {0}
 
 pub record HeadingsRead (text : List ℕ) (at : ℕ) (out : Headed) : Type 0 where

@@ -2,6 +2,7 @@
 ghost use mathlib.Core.Path.{_≡_};
 ghost use Prim.Native.Nat.{_≤_};
 ghost use lib.ListN.{length};
+ghost use Rattle.model.specs.Sizes.{locations};
 ghost use Rattle.litmus_form.specs.Places.{Sound};
 ghost use Rattle.litmus_said.specs.Saying.{seenIn};
 ghost use Rattle.litmus_reader.specs.Forming.{FormRead};
@@ -20,6 +21,7 @@ use litmus_said::note::note;
 use litmus_token::next::next_token;
 use model::answer::Refusal;
 use model::record::Record;
+use model::table::Cells;
 
 // Its record, of kind 0 for an empty cell, and the byte behind it; or a refusal.
 pub enum Cell {
@@ -31,12 +33,12 @@ pub fn read_form<'a>(
     text: &[u8],
     at: usize,
     place: Place,
-    seen: &'a mut [u8; 8],
+    seen: &'a mut [u8; Cells::LOCATIONS],
     letters: &'a mut usize,
 ) -> Cell
-    requires { ⌜ (at ≤ length (now text)) × Sound place × (now letters ≤ 8) ⌝ }
+    requires { ⌜ (at ≤ length (now text)) × Sound place × (now letters ≤ locations) ⌝ }
     ensures { λ out. ⌜ FormRead (now (text .entry)) at place (seenIn (now (seen .entry)) (now (letters .entry))) out (seenIn (now (seen .exit)) (now (letters .exit)))
-        × (now (letters .exit) ≤ 8) ⌝ }
+        × (now (letters .exit) ≤ locations) ⌝ }
 {
     let mark = mark_in(place);
     let mut alive = flags_in(place);

@@ -2,6 +2,7 @@
 ghost use mathlib.Core.Path.{_≡_};
 ghost use Prim.Native.Nat.{_+_, _<_, _≤_};
 ghost use lib.ListN.{length};
+ghost use Rattle.model.specs.Sizes.{locations};
 ghost use Rattle.litmus_form.specs.Places.{Sound};
 ghost use Rattle.litmus_said.specs.Saying.{seenIn};
 ghost use Rattle.litmus_reader.specs.Forming.{FormsRead};
@@ -15,6 +16,7 @@ use litmus_form::place::leaves_in;
 use litmus_form::place::next_in;
 use litmus_token::next::next_token;
 use model::record::Record;
+use model::table::Cells;
 use record::bytes::write_record;
 
 // No readable table has so many records: those behind them need not be kept to find that out.
@@ -44,16 +46,16 @@ pub fn read_forms<'a>(
     text: &[u8],
     at: usize,
     place: Place,
-    seen: &'a mut [u8; 8],
+    seen: &'a mut [u8; Cells::LOCATIONS],
     letters: &'a mut usize,
     records: &'a mut [u8],
     count: &'a mut usize,
 ) -> Passage
-    requires { ⌜ (at ≤ length (now text)) × Sound place × (now letters ≤ 8) × (now count ≤ at) ⌝ }
+    requires { ⌜ (at ≤ length (now text)) × Sound place × (now letters ≤ locations) × (now count ≤ at) ⌝ }
     requires { do ⌜ length (now records) ≡ (← ⟦BYTES⟧) ⌝ }
     ensures { λ out. ⌜ FormsRead (now (text .entry)) at place (seenIn (now (seen .entry)) (now (letters .entry))) (now (records .entry)) (now (count .entry))
         out (seenIn (now (seen .exit)) (now (letters .exit))) (now (records .exit)) (now (count .exit)) ⌝ }
-    ensures { λ out. do ⌜ Ahead (now (count .exit)) (now (text .entry)) out × (now (letters .exit) ≤ 8) × (length (now (records .exit)) ≡ (← ⟦BYTES⟧ .entry)) ⌝ }
+    ensures { λ out. do ⌜ Ahead (now (count .exit)) (now (text .entry)) out × (now (letters .exit) ≤ locations) × (length (now (records .exit)) ≡ (← ⟦BYTES⟧ .entry)) ⌝ }
 {
     let mut place = place;
     let mut at = at;

@@ -2,12 +2,14 @@
 ghost use mathlib.Core.Path.{_≡_};
 ghost use Prim.Native.Nat.{_≤_};
 ghost use lib.ListN.{length};
+ghost use Rattle.model.specs.Sizes.{processors};
 ghost use Rattle.litmus_model.specs.Bytes.{same};
 ghost use Rattle.litmus_model.specs.Forms.{heading};
 ghost use Rattle.litmus_reader.specs.Passing.{HeadingsRead};
 use litmus_form::patterns::is_mark;
 use litmus_token::next::next_token;
 use model::answer::Refusal;
+use model::table::Program;
 
 // How many there are, and the byte behind them; or a refusal.
 pub enum Headed {
@@ -15,11 +17,8 @@ pub enum Headed {
     Refused(Refusal, usize),
 }
 
-// The most that are looked for: the fifth is one too many.
-const FIFTH: usize = 4;
-
 fn is_heading(n: usize, t: &[u8]) -> bool
-    requires { ⌜ n ≤ 4 ⌝ }
+    requires { ⌜ n ≤ processors ⌝ }
     ensures { λ r. ⌜ r ≡ same (heading n) (now (t .entry)) ⌝ }
 {
     if t.len() != 2 {
@@ -41,7 +40,8 @@ pub fn read_headings(text: &[u8], at: usize) -> Headed
         if !is_heading(n, &text[from..to]) {
             return Headed::Refused(Refusal::TextGrammar, from);
         }
-        if n == FIFTH {
+        // The fifth.
+        if n == Program::PROCESSORS {
             return Headed::Refused(Refusal::TextLimit, from);
         }
         n += 1;

@@ -10,13 +10,14 @@ use crate::headings::read_headings;
 use crate::passage::Passage;
 use litmus_form::place::Place;
 use model::answer::Answer;
+use model::table::Cells;
 
 // How many records the text gives, and the first of them, in bytes that were zeros; or its refusal.
 pub fn read_text(text: &[u8], records: &mut [u8]) -> Answer
     requires { do ⌜ now records ≡ replicate (← ⟦BYTES⟧) 0 ⌝ }
     ensures { λ out. ⌜ TextRead (now (text .entry)) out (now (records .exit)) ⌝ }
 {
-    let mut seen = [0u8; 8];
+    let mut seen = [0u8; Cells::LOCATIONS];
     let mut letters = 0;
     let mut count = 0;
     let cells = match read_head(text) {

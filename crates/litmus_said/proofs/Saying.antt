@@ -36,7 +36,7 @@ use Rattle.litmus_said.proofs.Constants.{read-back, range-capped, cappe
 pub says-above : (n v : ℕ) → v ≡ capped n → 3 < v → Says (aProcessor n) (Wrong TextLimit)
 says-above n v e h = let c = capped-least n in processorAbove {p = n} (omega arith)
 
-pub says-processor : (n v : ℕ) → v ≡ capped n → v ≤ 3 → Says (aProcessor n) (Processor v)
+pub says-processor : (n v : ℕ) → v ≡ capped n → v < 4 → Says (aProcessor n) (Processor v)
 says-processor n v e h =
     let c : v ≡ n = e ∙ capped-small n (omega arith) in
     subst⁻¹ (λ (k : ℕ). Says (aProcessor n) (Processor k)) c (processor {p = n} (omega arith))

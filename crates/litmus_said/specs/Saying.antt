@@ -5,6 +5,7 @@ use mathlib.Core.List.{List}
 use Prim.Native.Nat.{ℕ, _≤_, _<_}
 use lib.ListN.{take}
 use lib.IntN.{ℤ}
+use Rattle.model.specs.Sizes.{processors, locations}
 use Rattle.model.specs.declared.record.Record.{Record}
 use Rattle.model.specs.declared.answer.Refusal.{Refusal}
 use Rattle.model.specs.declared.answer.Refusal.the-variants.{TextLimit, TextConstant}
@@ -19,8 +20,8 @@ use Rattle.litmus_said.specs.declared.note.Noted.the-variants as outcome
 
 pub data Says : Mention → Said → Type 0 where
   nothing : Says Mention.nothing Nothing
-  processor : {p : ℕ} → p < 4 → Says (aProcessor p) (Processor p)
-  processorAbove : {p : ℕ} → 4 ≤ p → Says (aProcessor p) (Wrong TextLimit)
+  processor : {p : ℕ} → p < processors → Says (aProcessor p) (Processor p)
+  processorAbove : {p : ℕ} → processors ≤ p → Says (aProcessor p) (Wrong TextLimit)
   register : {q : ℕ} → Says (aRegister q) (Register q)
   letter : {x : ℕ} → Says (aLocation x) (Letter x)
   value : {v : ℤ} → InRange v → Says (aConstant v) (Value (stored v))
@@ -32,8 +33,8 @@ seenIn seen letters = take letters seen
 
 -- location x has number i, with these letters seen before it and those after it
 pub data Locates (seen : List ℕ) (x i : ℕ) (after : List ℕ) : Type 0 where
-  ninth : 8 ≤ i → fault seen (aLocation x) ≡ some 20 → Locates seen x i after
-  found : i < 8 → fault seen (aLocation x) ≡ none → after ≡ seenOn seen (aLocation x) → i ≡ numberIn after x → Locates seen x i after
+  ninth : locations ≤ i → fault seen (aLocation x) ≡ some 20 → Locates seen x i after
+  found : i < locations → fault seen (aLocation x) ≡ none → after ≡ seenOn seen (aLocation x) → i ≡ numberIn after x → Locates seen x i after
 
 -- the record under way, where d is said of it and these letters are seen
 abbrev pub underway : List ℕ → Draft → Record

@@ -2,6 +2,7 @@
 ghost use mathlib.Core.Bool.{true};
 ghost use mathlib.Core.Path.{_≡_};
 ghost use Prim.Native.Nat.{_≤_};
+ghost use Rattle.model.specs.Sizes.{locations};
 ghost use Rattle.litmus_form.specs.Flags.{patternAt};
 ghost use Rattle.litmus_model.specs.Forms.{fits, mention};
 ghost use Rattle.litmus_said.specs.Saying.{seenIn, Notes};
@@ -10,6 +11,7 @@ use crate::said::Said;
 use crate::said::says;
 use model::answer::Refusal;
 use model::record::Record;
+use model::table::Cells;
 
 pub enum Noted {
     Well(Record),
@@ -20,13 +22,13 @@ pub fn note<'a>(
     mut r: Record,
     code: u8,
     t: &[u8],
-    seen: &'a mut [u8; 8],
+    seen: &'a mut [u8; Cells::LOCATIONS],
     letters: &'a mut usize,
 ) -> Noted
-    requires { ⌜ (fits (patternAt code) (now t) ≡ true) × (now letters ≤ 8) ⌝ }
+    requires { ⌜ (fits (patternAt code) (now t) ≡ true) × (now letters ≤ locations) ⌝ }
     ensures { λ out. ⌜ Notes r (mention (patternAt code) (now (t .entry))) (seenIn (now (seen .entry)) (now (letters .entry)))
         out (seenIn (now (seen .exit)) (now (letters .exit))) ⌝ }
-    ensures { λ out. ⌜ now (letters .exit) ≤ 8 ⌝ }
+    ensures { λ out. ⌜ now (letters .exit) ≤ locations ⌝ }
 {
     match says(code, t) {
         Said::Nothing => Noted::Well(r),
@@ -40,7 +42,7 @@ pub fn note<'a>(
         }
         Said::Letter(x) => {
             let i = locate(seen, letters, x);
-            if 8 <= i {
+            if Cells::LOCATIONS <= i {
                 return Noted::Wrong(Refusal::TextLimit);
             }
             r.location = i as u8;

@@ -17,6 +17,7 @@ use litmus_form::patterns::LOCATION;
 use litmus_form::patterns::PROCESSOR;
 use litmus_form::patterns::REGISTER;
 use model::answer::Refusal;
+use model::table::Program;
 
 pub enum Said {
     Nothing,
@@ -27,11 +28,13 @@ pub enum Said {
     Wrong(Refusal),
 }
 
+const PROCESSORS: u64 = Program::PROCESSORS as u64;
+
 fn processor(t: &[u8]) -> Said
     ensures { λ s. ⌜ Says (aProcessor (valueOf (now (t .entry)))) s ⌝ }
 {
     let v = value_of(t, 0);
-    if 3 < v {
+    if PROCESSORS <= v {
         return Said::Wrong(Refusal::TextLimit);
     }
     Said::Processor(v as u8)

@@ -1,4 +1,4 @@
-// Where tokens begin and end. A trial.
+// Where tokens begin and end, and what they are made of.
 ghost use mathlib.Core.Path.{_≡_};
 ghost use Prim.Native.Nat.{suc, _+_, _≤_, _<_};
 ghost use lib.ListN.{length, drop, getD};
@@ -7,6 +7,7 @@ ghost use Rattle.litmus_token.specs.Classes.{classOf};
 ghost use Rattle.litmus_model.specs.Splitting.{run, numberLength, signedLength, behind};
 use crate::words::same_bytes;
 
+// Classes of bytes: letters and digits, what a name is made of, blanks, digits.
 pub const WORD: u8 = 0;
 
 pub const NAME: u8 = 1;
@@ -18,15 +19,15 @@ pub const DIGIT: u8 = 3;
 fn in_class(class: u8, b: u8) -> bool
     ensures { λ r. ⌜ r ≡ classOf class b ⌝ }
 {
-    let blank = (b == 32) | (b == 10) | (b == 13);
-    let digit = (48 <= b) & (b <= 57);
-    if class == 0 {
-        return digit | ((65 <= b) & (b <= 90)) | ((97 <= b) & (b <= 122));
+    let blank = (b == b' ') | (b == b'\n') | (b == b'\r');
+    let digit = (b'0' <= b) & (b <= b'9');
+    if class == WORD {
+        return digit | ((b'A' <= b) & (b <= b'Z')) | ((b'a' <= b) & (b <= b'z'));
     }
-    if class == 1 {
-        return !blank & (b != 123);
+    if class == NAME {
+        return !blank & (b != b'{');
     }
-    if class == 2 {
+    if class == BLANK {
         return blank;
     }
     digit
@@ -51,7 +52,7 @@ pub fn run_end(class: u8, text: &[u8], at: usize) -> usize
 pub fn is_number(t: &[u8]) -> bool
     ensures { λ r. ⌜ r ≡ isNumber (now (t .entry)) ⌝ }
 {
-    let end = run_end(3, t, 0);
+    let end = run_end(DIGIT, t, 0);
     (0 < t.len()) & (end == t.len())
 }
 
@@ -62,7 +63,7 @@ pub fn is_constant(t: &[u8]) -> bool
     if t.len() == 0 {
         return false;
     }
-    if t[0] == 45 {
+    if t[0] == b'-' {
         return is_number(&t[1..]);
     }
     is_number(t)
@@ -75,7 +76,7 @@ pub fn is_dollar(t: &[u8]) -> bool
     if t.len() == 0 {
         return false;
     }
-    if t[0] != 36 {
+    if t[0] != b'$' {
         return false;
     }
     is_constant(&t[1..])
@@ -86,7 +87,7 @@ fn number_end(text: &[u8], at: usize) -> usize
     requires { ⌜ at ≤ length (now text) ⌝ }
     ensures { λ r. ⌜ (r ≡ at + numberLength (drop at (now (text .entry)))) × (r ≤ length (now (text .entry))) × (at ≤ r) ⌝ }
 {
-    let end = run_end(0, text, at);
+    let end = run_end(WORD, text, at);
     if is_number(&text[at..end]) {
         return end;
     }
@@ -101,7 +102,7 @@ fn signed_end(text: &[u8], at: usize) -> usize
     if text.len() <= at {
         return at;
     }
-    if text[at] != 45 {
+    if text[at] != b'-' {
         return number_end(text, at);
     }
     let end = number_end(text, at + 1);
@@ -117,19 +118,19 @@ pub fn token_end(text: &[u8], at: usize) -> usize
     ensures { λ r. ⌜ (r ≡ suc at + behind (getD (now (text .entry)) at 0) (drop (suc at) (now (text .entry)))) × (r ≤ length (now (text .entry))) × (at < r) ⌝ }
 {
     let b = text[at];
-    if in_class(0, b) {
-        return run_end(0, text, at + 1);
+    if in_class(WORD, b) {
+        return run_end(WORD, text, at + 1);
     }
-    if b == 36 {
+    if b == b'$' {
         return signed_end(text, at + 1);
     }
-    if b == 45 {
+    if b == b'-' {
         return number_end(text, at + 1);
     }
-    if b != 126 {
+    if b != b'~' {
         return at + 1;
     }
-    let end = run_end(0, text, at + 1);
+    let end = run_end(WORD, text, at + 1);
     if same_bytes(b"exists", &text[at + 1..end]) {
         return end;
     }
@@ -140,6 +141,6 @@ pub fn token_end(text: &[u8], at: usize) -> usize
 pub fn is_name(t: &[u8]) -> bool
     ensures { λ r. ⌜ r ≡ isName (now (t .entry)) ⌝ }
 {
-    let end = run_end(1, t, 0);
+    let end = run_end(NAME, t, 0);
     (0 < t.len()) & (end == t.len())
 }

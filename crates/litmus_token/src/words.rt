@@ -1,4 +1,4 @@
-// What a token is. A trial.
+// Tokens that stand for themselves, registers, locations.
 ghost use mathlib.Core.Path.{_≡_};
 ghost use lib.ListN.{length, drop, getD};
 ghost use Rattle.litmus_model.specs.Bytes.{same, isDigit, isRegister, isLocation};
@@ -35,5 +35,5 @@ pub fn is_location(t: &[u8]) -> bool
         return false;
     }
     let b = t[0];
-    (97 <= b) & (b <= 122)
+    (b'a' <= b) & (b <= b'z')
 }
