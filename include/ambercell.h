@@ -4,9 +4,10 @@
  * A table says what the code of up to four processors does: stores, loads, fences, exchanges. A
  * trace proposes an order of their steps, with the moments when a waiting write reaches memory.
  * ambercell_check says what registers and memory hold at the end, or which step cannot happen.
- * ambercell_finish writes the steps that finish a run.
+ * ambercell_finish writes the steps that finish a run. ambercell_litmus makes a table of a litmus
+ * text.
  *
- * Tables, traces and rooms may have any length and any contents: each call gets a stated answer,
+ * Tables, traces, texts and rooms may have any length and any contents: each call gets a stated answer,
  * and the answers are proved. docs/FORMAT.md says when a step is allowed; examples/c/handover.c is
  * a program to begin from.
  *
@@ -70,10 +71,11 @@ enum {
  * The numbers of an answer, each with its place. The first that applies is given: 1; then the
  * table's records in turn, each tested 2 to 7; then 8; then the trace's records in turn, each
  * tested 9, 10 and then, where the rule of its kind of step has the condition, 14, 18, 16, 17, 15;
- * then 12; last 13. 11 is not given.
+ * then 12; last 13. 11 is not given. For a litmus text the earliest of 19, 20 and 21; then 6 or 7;
+ * last 13.
  */
 enum {
-    AMBERCELL_DONE = 0, /* place: steps in the trace (check), steps written (finish) */
+    AMBERCELL_DONE = 0, /* place: steps in the trace (check), steps written (finish), records (litmus) */
 
     AMBERCELL_TABLE_LENGTH = 1, /* table length no multiple of 8; place: whole records in it */
     /* 2 to 7 give the place of a record in the table, from 0 */
@@ -90,20 +92,26 @@ enum {
     AMBERCELL_TRACE_FIELD = 10, /* used field too large, or unused field not zero */
     AMBERCELL_UNFINISHED = 12,  /* trace ends unfinished (check only); place: steps in it */
 
-    AMBERCELL_ROOM_TOO_SMALL = 13, /* place: words (check) or bytes (finish) needed */
+    AMBERCELL_ROOM_TOO_SMALL = 13, /* place: words (check) or bytes (finish, litmus) needed */
 
     /* why a step is not allowed */
     AMBERCELL_ANOTHER_KIND = 14,     /* the program's next step is another kind, or the program has ended */
     AMBERCELL_NOT_RIGHT = 15,        /* location or value is not the right one */
     AMBERCELL_LOCK_HELD = 16,        /* another processor holds the lock */
     AMBERCELL_BUFFER_NOT_EMPTY = 17, /* own buffer not empty */
-    AMBERCELL_NOTHING_WAITS = 18     /* nothing waits to drain */
+    AMBERCELL_NOTHING_WAITS = 18,    /* nothing waits to drain */
+
+    /* 19 to 21 give the place of a byte in a litmus text, from 0 */
+    AMBERCELL_TEXT_GRAMMAR = 19, /* no litmus text goes on with this token, or ends here */
+    AMBERCELL_TEXT_LIMIT = 20,   /* a ninth location, or a processor above 3 */
+    AMBERCELL_TEXT_CONSTANT = 21 /* a constant out of range */
 };
 
 /* Rooms that are always large enough. */
 enum {
     AMBERCELL_CHECK_WORDS = 24,
-    AMBERCELL_FINISH_BYTES = 2560 /* the longest finished trace has 320 steps */
+    AMBERCELL_FINISH_BYTES = 2560, /* the longest finished trace has 320 steps */
+    AMBERCELL_LITMUS_BYTES = 704   /* no table has more than 88 records */
 };
 
 typedef struct { uint64_t number; uint64_t place; } ambercell_answer;
@@ -113,9 +121,10 @@ typedef struct { uint64_t number; uint64_t place; } ambercell_answer;
  * other number the whole room keeps its contents.
  *
  * The caller sees to this, and to nothing else:
- * - table, trace and room point to as much memory as is said; with a length of 0 they may be NULL;
- * - the room overlaps neither table nor trace; during the call nothing else uses the room, and
- *   nothing writes to table or trace.
+ * - table, trace, text and room point to as much memory as is said; with a length of 0 they may be
+ *   NULL;
+ * - the room overlaps no other part; during the call nothing else uses the room, and nothing writes
+ *   to table, trace or text.
  *
  * There is no global state and no allocation. Any number of threads may call at once, each with a
  * room of its own; they may share tables and traces.
@@ -137,6 +146,13 @@ ambercell_answer ambercell_check(const uint8_t *table, size_t table_bytes,
  */
 ambercell_answer ambercell_finish(const uint8_t *table, size_t table_bytes,
                                   const uint8_t *trace, size_t trace_bytes,
+                                  uint8_t *room, size_t room_bytes);
+
+/*
+ * Makes a table of a litmus text, in the form that docs/LITMUS.md has. On number 0 the first
+ * 8 * place bytes of the room are the table's records.
+ */
+ambercell_answer ambercell_litmus(const uint8_t *text, size_t text_bytes,
                                   uint8_t *room, size_t room_bytes);
 
 #ifdef __cplusplus

@@ -3,11 +3,11 @@
 //! A table says what the code of up to four processors does: stores, loads, fences, exchanges. A
 //! trace proposes an order of their steps, with the moments when a waiting write reaches memory.
 //! [`check`] says what registers and memory hold at the end, or which step cannot happen.
-//! [`finish`] writes the steps that finish a run.
+//! [`finish`] writes the steps that finish a run. [`litmus`] makes a table of a litmus text.
 //!
 //! Tables and traces are records of 8 bytes: kind, processor, register, location, and a value of
 //! four bytes, lowest first. docs/FORMAT.md has their kinds, and says when a step is allowed.
-//! Tables, traces and rooms may have any length and any contents: each call gets a stated answer,
+//! Tables, traces, texts and rooms may have any length and any contents: each call gets a stated answer,
 //! and the answers are proved.
 //!
 //! ```
@@ -48,6 +48,9 @@ pub const CHECK_WORDS: usize = 24;
 /// Bytes that are always enough for [`finish`]: the longest finished trace has 320 steps.
 pub const FINISH_BYTES: usize = 2560;
 
+/// Bytes that are always enough for [`litmus`]: no table has more than 88 records.
+pub const LITMUS_BYTES: usize = 704;
+
 // As in include/ambercell.h.
 extern "C" {
     fn ambercell_check(
@@ -64,6 +67,13 @@ extern "C" {
         table_bytes: usize,
         trace: *const u8,
         trace_bytes: usize,
+        room: *mut u8,
+        room_bytes: usize,
+    ) -> Answer;
+
+    fn ambercell_litmus(
+        text: *const u8,
+        text_bytes: usize,
         room: *mut u8,
         room_bytes: usize,
     ) -> Answer;
@@ -101,6 +111,23 @@ pub fn finish(table: &[u8], trace: &[u8], room: &mut [u8]) -> Result<usize, Refu
             table.len(),
             trace.as_ptr(),
             trace.len(),
+            room.as_mut_ptr(),
+            room.len(),
+        )
+    };
+    answer.result()
+}
+
+/// Makes a table of a litmus text, in the form that docs/LITMUS.md has, and gives the number of its
+/// records.
+///
+/// Each has 8 bytes at the start of the room, and bytes past them keep their contents.
+pub fn litmus(text: &[u8], room: &mut [u8]) -> Result<usize, Refused> {
+    // Safety: as in `check`.
+    let answer = unsafe {
+        ambercell_litmus(
+            text.as_ptr(),
+            text.len(),
             room.as_mut_ptr(),
             room.len(),
         )

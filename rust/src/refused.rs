@@ -47,12 +47,16 @@ refusals! {
     LockHeld = 16, "another processor holds the lock";
     BufferNotEmpty = 17, "own buffer not empty";
     NothingWaits = 18, "nothing waits to drain";
+    TextGrammar = 19, "no litmus text goes on with this token, or ends here";
+    TextLimit = 20, "a ninth location, or a processor above 3";
+    TextConstant = 21, "a constant out of range";
 }
 
 /// Why a call was refused, and the place. The room keeps its contents.
 ///
 /// For 1 and 8 the place is the number of whole records, for 12 that of the steps in the trace, for
-/// 13 that of the words or bytes needed. Else it is the record of the table or trace, from 0.
+/// 13 that of the words or bytes needed, for 19 to 21 it is the byte of the text, from 0. Else it is
+/// the record of the table or trace, from 0.
 #[derive(Clone, Copy, Debug, PartialEq, Eq, Hash)]
 pub struct Refused {
     pub why: Refusal,

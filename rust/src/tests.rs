@@ -2,11 +2,11 @@
 //! docs/FORMAT.md, and an answer becomes a result. tests/calls.rs calls the library.
 use crate::answer::Answer;
 use crate::refused::{Refusal, Refused};
-use crate::{CHECK_WORDS, FINISH_BYTES};
+use crate::{CHECK_WORDS, FINISH_BYTES, LITMUS_BYTES};
 
 /// 11 is given no more.
 fn numbers() -> impl Iterator<Item = u64> {
-    (1..=10).chain(12..=18)
+    (1..=10).chain(12..=21)
 }
 
 /// The header has this name, and gives it this number.
@@ -47,9 +47,9 @@ fn there_is_no_eleventh() {
 }
 
 #[test]
-#[should_panic(expected = "no number 19")]
-fn there_is_no_nineteenth() {
-    Refusal::of(19);
+#[should_panic(expected = "no number 22")]
+fn there_is_no_twenty_second() {
+    Refusal::of(22);
 }
 
 #[test]
@@ -78,6 +78,7 @@ fn a_refusal_says_its_number_its_place_and_why() {
 fn rooms_are_those_of_the_header() {
     assert!(in_header("CHECK_WORDS", CHECK_WORDS as u64));
     assert!(in_header("FINISH_BYTES", FINISH_BYTES as u64));
+    assert!(in_header("LITMUS_BYTES", LITMUS_BYTES as u64));
 }
 
 #[test]

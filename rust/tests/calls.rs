@@ -1,5 +1,7 @@
 //! Calls from Rust, with answers of document 01's sheet.
-use ambercell::{check, finish, Refusal, Refused, CHECK_WORDS, FINISH_BYTES};
+use ambercell::{
+    check, finish, litmus, Refusal, Refused, CHECK_WORDS, FINISH_BYTES, LITMUS_BYTES,
+};
 
 type Record = [u8; 8];
 
@@ -107,7 +109,7 @@ fn every_refusal() {
         (&fenced, &[W0_X1, [4, 0, 0, 0, 0, 0, 0, 0]].concat()),
         (&sb, &D0_X1),
     ];
-    // 11 is given no more
+    // 11 is given no more, and 19 to 21 only for texts
     for (number, (table, trace)) in (1..=10).chain(12..).zip(calls) {
         let answer = check(table, trace, &mut []).unwrap_err();
         assert_eq!(answer.why as u64, number);
@@ -123,4 +125,40 @@ fn longest() {
     let mut steps = [0; FINISH_BYTES];
     assert_eq!(finish(&table, &[], &mut steps), Ok(320));
     assert_eq!(check(&table, &steps, &mut [0; CHECK_WORDS]), Ok(320));
+}
+
+/// A litmus text becomes a table, which is finished and checked.
+#[test]
+fn a_text_is_read() {
+    let text = b"X86 SB { } P0 | P1 ; MOV [x],$1 | MOV [y],$1 ; MOV EAX,[y] | MOV EBX,[x] ; exists";
+    let mut room = [7; LITMUS_BYTES];
+    assert_eq!(litmus(text, &mut room), Ok(4));
+    assert_eq!(room[..32], [SB[0], SB[2], SB[1], SB[3]].concat());
+    assert_eq!(room[32..], [7; LITMUS_BYTES - 32]);
+    let mut steps = [0; FINISH_BYTES];
+    assert_eq!(finish(&room[..32], &[], &mut steps), Ok(6));
+    assert_eq!(
+        check(&room[..32], &steps[..48], &mut [0; CHECK_WORDS]),
+        Ok(6)
+    );
+}
+
+#[test]
+fn texts_are_refused_and_the_room_kept() {
+    let texts: [(&[u8], Refusal, usize); 5] = [
+        (b"", Refusal::TextGrammar, 0),
+        (b"X86 t{}P0;MOV x", Refusal::TextGrammar, 14),
+        (b"X86 t{4:EAX=0;}P0;exists", Refusal::TextLimit, 6),
+        (b"X86 t{x=-2147483649;}P0;exists", Refusal::TextConstant, 8),
+        (b"X86 t{x=0;x=0;}P0;exists", Refusal::CellTwice, 1),
+    ];
+    for (text, why, place) in texts {
+        let mut room = [7; LITMUS_BYTES];
+        assert_eq!(litmus(text, &mut room), refused(why, place));
+        assert_eq!(room, [7; LITMUS_BYTES]);
+    }
+    assert_eq!(
+        litmus(b"X86 t{x=0;}P0;exists", &mut [0; 7]),
+        refused(Refusal::RoomTooSmall, 8)
+    );
 }

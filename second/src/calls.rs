@@ -1,7 +1,8 @@
-//! The two calls: the numbers of a trace and of a room, and the order of all.
+//! The three calls: the numbers of a trace and of a room, and the order of all.
 
 use crate::kinds::Step;
-use crate::record::{records, Record};
+use crate::litmus_text;
+use crate::record::{bytes, records, Record};
 use crate::reply::{self, Reply};
 use crate::run::{Run, CELLS};
 use crate::table::{self, Table};
@@ -14,6 +15,11 @@ pub fn check(table: &[u8], trace: &[u8], room: &mut [u32]) -> Reply {
 /// Finishes a trace. On 0 the room takes the k steps that were left.
 pub fn finish(table: &[u8], trace: &[u8], room: &mut [u8]) -> Reply {
     reply(try_finish(table, trace, room))
+}
+
+/// Reads a litmus text. On 0 the room takes the records of its table.
+pub fn litmus(text: &[u8], room: &mut [u8]) -> Reply {
+    reply(try_litmus(text, room))
 }
 
 fn try_check(table: &[u8], trace: &[u8], room: &mut [u32]) -> Result<usize, Reply> {
@@ -39,6 +45,14 @@ fn try_finish(table: &[u8], trace: &[u8], room: &mut [u8]) -> Result<usize, Repl
         }
     }
     Ok(k)
+}
+
+fn try_litmus(text: &[u8], room: &mut [u8]) -> Result<usize, Reply> {
+    let records = litmus_text::read(text)?;
+    let table = bytes(&records);
+    table::read(&table)?;
+    lent(room, table.len())?.copy_from_slice(&table);
+    Ok(records.len())
 }
 
 /// The run after the whole trace, or the first refusal of it.

@@ -5,14 +5,36 @@ mod damage;
 mod rooms;
 mod tables;
 mod tempting;
+mod texts;
 mod traces;
 
+use crate::calls::finish;
 use crate::case::{Call, Case};
 use crate::dice::Dice;
 use crate::record::{bytes, Record};
+use crate::run::CELLS;
 use crate::table;
 use traces::Habit;
 
+/// What cases are about.
+#[derive(Clone, Copy, Debug, PartialEq, Eq)]
+pub enum Family {
+    /// Checking and finishing.
+    Traces,
+    /// Litmus texts.
+    Texts,
+}
+
+impl Family {
+    pub fn case(self, seed: u64, number: u64) -> Case {
+        match self {
+            Family::Traces => case(seed, number),
+            Family::Texts => texts::case(seed, number),
+        }
+    }
+}
+
+/// A check or a finish.
 pub fn case(seed: u64, number: u64) -> Case {
     let dice = &mut Dice::new(seed, number);
     let (records, habit) = undamaged(dice);
@@ -24,7 +46,7 @@ pub fn case(seed: u64, number: u64) -> Case {
         (0..=2, _) => tables::damage(dice, &mut table),
         (3..=7, _) => traces::damage(dice, &table, &mut trace),
         (_, Call::Finish) => traces::cut(dice, &mut trace),
-        (_, Call::Check) => {}
+        _ => {}
     }
     // At times both are damaged: a table's number comes before any of a trace.
     match dice.below(8) {
@@ -32,7 +54,12 @@ pub fn case(seed: u64, number: u64) -> Case {
         1 => traces::damage(dice, &table, &mut trace),
         _ => {}
     }
-    let room = rooms::room(dice, call, &table, &trace);
+    let needed = match call {
+        Call::Check => CELLS,
+        // Finishing in no room says what it needs.
+        _ => finish(&table, &trace, &mut []).place as usize,
+    };
+    let room = rooms::room(dice, call, needed);
     Case {
         call,
         table,

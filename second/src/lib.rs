@@ -1,5 +1,6 @@
 //! A second, independent implementation of document 01. It keeps the history of steps and works
-//! out from it, each time anew, what the machine holds. It shares nothing with the proved code.
+//! out from it, each time anew, what the machine holds. Litmus texts it reads in passes over the
+//! whole text. It shares nothing with the proved code.
 
 #![forbid(unsafe_code)]
 
@@ -7,13 +8,16 @@ pub mod calls;
 pub mod case;
 pub mod compare;
 pub mod dice;
+pub mod escapes;
+pub mod examples;
 pub mod folder;
 pub mod forms;
 pub mod generate;
 pub mod kinds;
 pub mod listing;
 pub mod lists;
-pub mod litmus;
+pub mod litmus_tests;
+pub mod litmus_text;
 pub mod peer;
 pub mod record;
 pub mod reply;
@@ -25,3 +29,4 @@ pub mod stated;
 pub mod table;
 pub mod tally;
 pub mod text;
+pub mod wire;

@@ -1,29 +1,36 @@
 //! The commands of the second implementation; bin/ has the ways in.
 
-use second::case::Answer;
+use second::case::{Answer, Case};
 use second::compare::compare;
+use second::examples::read_examples;
 use second::folder::{to_records, to_text};
-use second::generate;
+use second::generate::Family;
 use second::listing::listing;
 use second::lists::lists;
-use second::litmus;
+use second::litmus_tests;
 use second::peer::Peer;
 use second::results::results;
 use second::shown::{show, show_answer};
 use second::stated::{read_cases, Stated};
 use second::tally::tally;
+use second::text::Wrong;
+use second::wire::answer_all;
 use std::fs;
-use std::io::Write;
+use std::io::{BufWriter, Write};
 use std::path::Path;
 use std::process::ExitCode;
 
 const USAGE: &str = "usage: second COMMAND ..
-  compare COUNT SEED -- PROGRAM   generated cases through the proved program `cases` and through this one
+  compare COUNT SEED [texts] -- PROGRAM
+                                  generated cases through the proved program `cases` and through this one:
+                                  checks and finishes, or litmus texts
   lists COUNT SEED -- PROGRAM     generated files through the proved program `list` and through this one
   worked FILE.. [-- PROGRAM]      cases whose answers were worked out by hand
+  examples FILE [-- PROGRAM]      the examples of docs/LITMUS.md
   litmus FOLDER [-- PROGRAM]      litmus tests: a table of results
-  counts COUNT SEED               how often generated cases are given each number, and 14 to 18 by the kind of step
-  case SEED NUMBER                a generated case as text, with its answer
+  counts COUNT SEED [texts]       how often generated cases are given each number, and 14 to 18 by the kind of step
+  case SEED NUMBER [texts]        a generated case as text, with its answer
+  answer                          answers cases as the proved program `cases` does
   list FOLDER                     what the listing program prints
   records FOLDER                  table.txt becomes table.rec and, if it is there, trace.txt trace.rec
   text FOLDER                     prints table.rec and trace.rec as text
@@ -50,17 +57,33 @@ fn main() -> ExitCode {
 
 fn run(words: &[&str], program: &[String]) -> Result<String, String> {
     match *words {
-        ["compare", count, seed] => compared(number(count)?, number(seed)?, program),
+        ["compare", count, seed, ref of @ ..] => {
+            compared(family(of)?, number(count)?, number(seed)?, program)
+        }
         ["lists", count, seed] if !program.is_empty() => {
             listed(number(count)?, number(seed)?, program)
         }
         ["worked", _, ..] => worked(&words[1..], peer(program)?),
+        ["examples", file] => examples(file, peer(program)?),
         ["litmus", folder] => judged(Path::new(folder), peer(program)?),
-        ["counts", count, seed] => Ok(tally(number(count)?, number(seed)?).text()),
-        ["case", seed, at] => Ok(generated(number(seed)?, number(at)?)),
+        ["counts", count, seed, ref of @ ..] => {
+            Ok(tally(family(of)?, number(count)?, number(seed)?).text())
+        }
+        ["case", seed, at, ref of @ ..] => {
+            Ok(generated(family(of)?.case(number(seed)?, number(at)?)))
+        }
+        ["answer"] => answered(),
         ["list", folder] => Ok(listing(Path::new(folder))),
         ["records", folder] => to_records(Path::new(folder)).map(|()| String::new()),
         ["text", folder] => to_text(Path::new(folder)),
+        _ => Err(USAGE.to_string()),
+    }
+}
+
+fn family(words: &[&str]) -> Result<Family, String> {
+    match words {
+        [] => Ok(Family::Traces),
+        ["texts"] => Ok(Family::Texts),
         _ => Err(USAGE.to_string()),
     }
 }
@@ -81,11 +104,15 @@ fn peer(program: &[String]) -> Result<Option<Peer>, String> {
     }
 }
 
-fn compared(count: u64, seed: u64, program: &[String]) -> Result<String, String> {
+fn compared(family: Family, count: u64, seed: u64, program: &[String]) -> Result<String, String> {
     let mut peer = peer(program)?.ok_or(USAGE)?;
-    let tally = compare(&mut peer, count, seed)?;
+    let tally = compare(family, &mut peer, count, seed)?;
+    let cases = match family {
+        Family::Traces => "cases",
+        Family::Texts => "texts",
+    };
     Ok(format!(
-        "{count} cases of seed {seed}: no difference\n{}",
+        "{count} {cases} of seed {seed}: no difference\n{}",
         tally.text()
     ))
 }
@@ -96,24 +123,45 @@ fn listed(count: u64, seed: u64, program: &[String]) -> Result<String, String> {
     Ok(format!("{count} folders of seed {seed}: no difference\n"))
 }
 
-fn generated(seed: u64, number: u64) -> String {
-    let case = generate::case(seed, number);
+fn generated(case: Case) -> String {
     show(&case) + &show_answer(&case, &case.answer())
+}
+
+fn answered() -> Result<String, String> {
+    let (stdin, stdout) = (std::io::stdin(), std::io::stdout());
+    let mut to = BufWriter::new(stdout.lock());
+    answer_all(&mut stdin.lock(), &mut to).map_err(failed("cases"))?;
+    Ok(String::new())
 }
 
 fn worked(files: &[&str], mut peer: Option<Peer>) -> Result<String, String> {
     let mut count = 0;
     for file in files {
-        let text = fs::read_to_string(file).map_err(failed(file))?;
-        for stated in read_cases(&text).map_err(|wrong| format!("{file}: {wrong}\n"))? {
-            as_stated(&stated, peer.as_mut()).map_err(|why| format!("{file}: {why}"))?;
-            count += 1;
-        }
+        count += all_as_stated(file, read_cases, peer.as_mut())?;
     }
     Ok(format!(
         "{count} cases of {} files: as stated\n",
         files.len()
     ))
+}
+
+fn examples(file: &str, mut peer: Option<Peer>) -> Result<String, String> {
+    let count = all_as_stated(file, read_examples, peer.as_mut())?;
+    Ok(format!("{count} texts of {file}: as stated\n"))
+}
+
+/// How many cases a file states.
+fn all_as_stated(
+    file: &str,
+    read: fn(&str) -> Result<Vec<Stated>, Wrong>,
+    mut peer: Option<&mut Peer>,
+) -> Result<usize, String> {
+    let text = fs::read_to_string(file).map_err(failed(file))?;
+    let cases = read(&text).map_err(|wrong| format!("{file}: {wrong}\n"))?;
+    for stated in &cases {
+        as_stated(stated, peer.as_deref_mut()).map_err(|why| format!("{file}: {why}"))?;
+    }
+    Ok(cases.len())
 }
 
 /// What is stated is what this implementation and the proved one answer.
@@ -141,13 +189,15 @@ fn as_stated(stated: &Stated, peer: Option<&mut Peer>) -> Result<(), String> {
     Ok(())
 }
 
-/// The table of results, with the proved program's answers on the shown traces.
+/// The table of results, with the proved program's answers on the shown traces and on the texts.
 fn judged(folder: &Path, mut peer: Option<Peer>) -> Result<String, String> {
     let mut all = Vec::new();
-    for test in litmus::read_folder(folder).map_err(|why| why + "\n")? {
-        let mut judged = litmus::judge(&test);
-        if let Err(why) = as_stated(&test.stated, peer.as_mut()) {
-            judged.fault = Some(why.trim_end().replace('\n', "; "));
+    for (test, text) in litmus_tests::read_folder(folder).map_err(|why| why + "\n")? {
+        let mut judged = litmus_tests::judge(&test);
+        for stated in [&test.stated, &text] {
+            if let Err(why) = as_stated(stated, peer.as_mut()) {
+                judged.fault = Some(why.trim_end().replace('\n', "; "));
+            }
         }
         all.push(judged);
     }

@@ -1,6 +1,7 @@
 //! A program that answers cases, at the other end of two pipes.
 
-use crate::case::{read_answer, write_case, Answer, Case};
+use crate::case::{Answer, Case};
+use crate::wire::{read_answer, write_case};
 use std::io::{self, BufReader, BufWriter, Write};
 use std::process::{Child, ChildStdin, ChildStdout, Command, Stdio};
 

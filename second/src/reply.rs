@@ -1,4 +1,4 @@
-//! What a call answers: the numbers of document 01 and of order 1, each with its place.
+//! What a call answers: the numbers of document 01 and of orders 1 and 2, each with its place.
 
 use std::ops::RangeInclusive;
 
@@ -33,11 +33,26 @@ pub const NOT_THE_RIGHT_ONE: u64 = 15;
 pub const LOCK_HELD: u64 = 16;
 pub const BUFFER_NOT_EMPTY: u64 = 17;
 pub const NOTHING_WAITS: u64 = 18;
+pub const OUTSIDE_THE_GRAMMAR: u64 = 19;
+pub const NO_SUCH_LOCATION_OR_PROCESSOR: u64 = 20;
+pub const CONSTANT_OUT_OF_RANGE: u64 = 21;
 
 /// Why a step is turned down.
 pub const OF_A_STEP: RangeInclusive<u64> = ANOTHER_KIND_IS_NEXT..=NOTHING_WAITS;
 
-/// All numbers there are. 11 is given no more: since order 1 the last five stand in its place.
+/// All numbers of a check or a finish. 11 is given no more: since order 1 the last five stand in its
+/// place.
 pub fn numbers() -> impl Iterator<Item = u64> {
     (DONE..=STEP_FIELD).chain(UNFINISHED..=NOTHING_WAITS)
 }
+
+/// All numbers of a litmus text. No others of a table can come.
+pub const OF_A_TEXT: [u64; 7] = [
+    DONE,
+    CELL_GIVEN_TWICE,
+    SEVENTEENTH_INSTRUCTION,
+    ROOM_TOO_SMALL,
+    OUTSIDE_THE_GRAMMAR,
+    NO_SUCH_LOCATION_OR_PROCESSOR,
+    CONSTANT_OUT_OF_RANGE,
+];

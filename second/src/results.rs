@@ -1,6 +1,6 @@
 //! The table of results of litmus tests.
 
-use crate::litmus::Judged;
+use crate::litmus_tests::Judged;
 
 /// The table of results, in the manner of source 000's A.9.
 pub fn results(tests: &[Judged]) -> String {

@@ -1,9 +1,10 @@
 //! Cases and answers as text, to be looked at.
 
 use crate::case::{words, Answer, Call, Case, WORD};
+use crate::escapes::escaped;
 use crate::reply::{self, Reply};
 use crate::run::CELLS;
-use crate::stated::{bytes_of_steps, marks};
+use crate::stated::{bytes_of_records, marks};
 use crate::text;
 
 /// The case as a text without a name. With `show_answer` after it, it can be read again.
@@ -11,6 +12,7 @@ pub fn show(case: &Case) -> String {
     let call = match case.call {
         Call::Check => "check",
         Call::Finish => "finish",
+        Call::Litmus => "litmus",
     };
     let room = case.room.len() / case.call.unit();
     let mut text = format!("case\n{call} room {room}\n");
@@ -18,9 +20,21 @@ pub fn show(case: &Case) -> String {
         let lines = case.room.chunks(16).map(text::hexadecimal);
         text += &part("room", &lines.collect::<Vec<_>>().join("\n"));
     }
-    text += &part("table", &text::table_text(&case.table));
-    text += &part("trace", &text::trace_text(&case.trace));
-    text
+    match case.call {
+        Call::Litmus => text + &part("text", &quoted(&case.table)),
+        Call::Check | Call::Finish => {
+            text += &part("table", &text::table_text(&case.table));
+            text + &part("trace", &text::trace_text(&case.trace))
+        }
+    }
+}
+
+/// A text's lines in quotes; long ones are broken.
+fn quoted(text: &[u8]) -> String {
+    let lines = text.split_inclusive(|&byte| byte == b'\n');
+    let pieces = lines.flat_map(|line| line.chunks(120));
+    let quoted = pieces.map(|piece| format!("\"{}\"\n", escaped(piece, b"\"#")));
+    quoted.collect()
 }
 
 fn part(word: &str, text: &str) -> String {
@@ -37,16 +51,20 @@ pub fn show_answer(case: &Case, answer: &Answer) -> String {
             let cells = cells_shown(&answer.room);
             (format!("finished {place}: {cells}"), CELLS * WORD)
         }
-        (reply::DONE, Call::Finish) => {
-            let written = bytes_of_steps(place).unwrap_or(usize::MAX);
-            let steps = text::trace_text(answer.room.get(..written).unwrap_or(&[]));
-            let steps = steps.trim_end().replace('\n', ", ");
-            (format!("written {place}: {steps}"), written)
-        }
+        (reply::DONE, Call::Finish) => written(place, &answer.room, text::trace_text),
+        (reply::DONE, Call::Litmus) => written(place, &answer.room, text::table_text),
         _ => (format!("refused {number} at {place}"), 0),
     };
     let changes = changes(&case.room, &answer.room, written);
     format!("gives {}\n{changes}", text.trim_end_matches(": "))
+}
+
+/// So many records of the room, and their bytes.
+fn written(count: u64, room: &[u8], text: fn(&[u8]) -> String) -> (String, usize) {
+    let bytes = bytes_of_records(count).unwrap_or(usize::MAX);
+    let records = text(room.get(..bytes).unwrap_or(&[]));
+    let records = records.trim_end().replace('\n', ", ");
+    (format!("written {count}: {records}"), bytes)
 }
 
 fn cells_shown(room: &[u8]) -> String {
@@ -99,6 +117,16 @@ table
 trace
   F0
 gives refused 14 at 0
+case
+litmus room 9
+text
+  \"X86 \\x22\\x23\\0 { x=1; }\\n\"
+  \" P0 ; exists (x=1)\"
+gives written 1: init x 1
+case
+litmus room 0
+text
+gives refused 19 at 0
 ";
 
     #[test]

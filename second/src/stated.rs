@@ -10,10 +10,24 @@
 //! gives finished 2: x 1           # or: gives written 1: D0 x1; or: gives refused 15 at 2
 //! ```
 //!
-//! The room is words for checking and bytes for finishing. It is filled with marks, or with the
+//! A litmus text has its bytes in quotes, in any number of pieces, with the escapes of docs/LITMUS.md
+//! (`\x22` for a quote, `\x23` for what begins a comment):
+//!
+//! ```text
+//! case a text
+//! litmus room 8
+//! text
+//!   "X86 t { x=1; }\n"
+//!   " P0 ;\n"
+//!   "exists"
+//! gives written 1: init x 1       # or: gives refused 19 at 4
+//! ```
+//!
+//! The room is words for checking and bytes for the others. It is filled with marks, or with the
 //! bytes of a part `room` of the case. What the answer does not speak of keeps its contents.
 
 use crate::case::{bytes_of_words, Answer, Call, Case};
+use crate::escapes::unescaped;
 use crate::record::Record;
 use crate::reply::{self, Reply};
 use crate::run::CELLS;
@@ -37,7 +51,10 @@ pub fn marks(length: usize) -> Vec<u8> {
 /// The most bytes of a room.
 const LARGEST_ROOM: usize = 1 << 20;
 
-const PARTS: [&str; 7] = ["case", "check", "finish", "room", "table", "trace", "gives"];
+const PARTS: [&str; 9] = [
+    "case", "check", "finish", "litmus", "room", "table", "trace", "text", "gives",
+];
+const CALLS: [&str; 3] = ["check", "finish", "litmus"];
 
 // A part of a case: its first word, and the text after it up to the next part.
 struct Part<'t> {
@@ -95,11 +112,22 @@ fn stated(parts: &[Part]) -> Result<Stated, Wrong> {
         read(&part.text).map_err(|wrong| part.wrong(wrong))
     };
     let name = one(parts, &["case"])?;
-    let (call, room) = call(one(parts, &["check", "finish"])?)?;
+    let (call, room) = call(one(parts, &CALLS)?)?;
+    let (table, trace, others) = match call {
+        Call::Litmus => (bytes("text", quoted)?, Vec::new(), &["table", "trace"][..]),
+        Call::Check | Call::Finish => (
+            bytes("table", text::table_bytes)?,
+            bytes("trace", text::trace_bytes)?,
+            &["text"][..],
+        ),
+    };
+    if let Some(other) = parts.iter().find(|part| others.contains(&part.word)) {
+        return Err(other.not_understood());
+    }
     let case = Case {
         call,
-        table: bytes("table", text::table_bytes)?,
-        trace: bytes("trace", text::trace_bytes)?,
+        table,
+        trace,
         room: match parts.iter().any(|part| part.word == "room") {
             true => contents(one(parts, &["room"])?, room * call.unit())?,
             false => marks(room * call.unit()),
@@ -130,6 +158,7 @@ fn one<'p, 't>(parts: &'p [Part<'t>], words: &[&str]) -> Result<&'p Part<'t>, Wr
 fn call(part: &Part) -> Result<(Call, usize), Wrong> {
     let call = match part.word {
         "check" => Call::Check,
+        "litmus" => Call::Litmus,
         _ => Call::Finish,
     };
     let words: Vec<&str> = part.text.split_whitespace().collect();
@@ -157,6 +186,23 @@ fn contents(part: &Part, length: usize) -> Result<Vec<u8>, Wrong> {
     Ok(bytes)
 }
 
+// The bytes of a text, a piece a line.
+fn quoted(text: &str) -> Result<Vec<u8>, Wrong> {
+    let mut bytes = Vec::new();
+    for (line, piece) in (1..).zip(text.lines()) {
+        let piece = piece.trim();
+        let inner = piece
+            .strip_prefix('"')
+            .and_then(|piece| piece.strip_suffix('"'));
+        match inner {
+            _ if piece.is_empty() => {}
+            Some(inner) => bytes.extend(unescaped(inner).map_err(|why| Wrong::new(line, why))?),
+            None => return Err(Wrong::new(line, format!("not in quotes: {piece}"))),
+        }
+    }
+    Ok(bytes)
+}
+
 // The whole answer: the case's room, with what is written into it.
 fn gives(part: &Part, case: &Case) -> Result<Answer, Wrong> {
     let (head, list) = part.text.split_once(':').unwrap_or((&part.text, ""));
@@ -164,6 +210,7 @@ fn gives(part: &Part, case: &Case) -> Result<Answer, Wrong> {
     let (number, place, written) = match (&words[..], case.call) {
         (["finished", steps], Call::Check) => ("0", steps, text::cells(list).map(result)),
         (["written", k], Call::Finish) => ("0", k, text::trace_bytes(list)),
+        (["written", count], Call::Litmus) => ("0", count, text::table_bytes(list)),
         (["refused", number, "at", place], _) if list.is_empty() => (*number, place, Ok(vec![])),
         _ => return Err(part.not_understood()),
     };
@@ -173,7 +220,7 @@ fn gives(part: &Part, case: &Case) -> Result<Answer, Wrong> {
         (Ok(number), Ok(place)) => Reply { number, place },
         _ => return Err(part.not_understood()),
     };
-    if words[0] == "written" && Some(written.len()) != bytes_of_steps(reply.place) {
+    if words[0] == "written" && Some(written.len()) != bytes_of_records(reply.place) {
         let why = format!("{} bytes are named as {place} records", written.len());
         return Err(Wrong::new(part.line, why));
     }
@@ -194,8 +241,8 @@ fn result(cells: Vec<(usize, u32)>) -> Vec<u8> {
     bytes_of_words(&words)
 }
 
-pub fn bytes_of_steps(k: u64) -> Option<usize> {
-    usize::try_from(k).ok()?.checked_mul(Record::BYTES)
+pub fn bytes_of_records(count: u64) -> Option<usize> {
+    usize::try_from(count).ok()?.checked_mul(Record::BYTES)
 }
 
 #[cfg(test)]
@@ -228,6 +275,12 @@ table
 trace
   F0
 gives refused 14 at 0
+case a text
+litmus room 9
+text
+  \"X86 t{x\" \t# a comment
+  \"=-1;}P0;exists\\x20\"
+gives written 1: init x 4294967295
 ";
 
     #[test]
@@ -235,7 +288,12 @@ gives refused 14 at 0
         let cases = read_cases(FILE).unwrap();
         let name = |stated: &Stated| (stated.name.clone(), stated.line);
         let names: Vec<_> = cases.iter().map(name).collect();
-        let expected = [("1, the line of the sheet", 2), ("", 12), ("third", 19)];
+        let expected = [
+            ("1, the line of the sheet", 2),
+            ("", 12),
+            ("third", 19),
+            ("a text", 27),
+        ];
         assert_eq!(names, expected.map(|(name, line)| (name.to_string(), line)));
         let mut words = [0; CELLS + 1];
         (words[15], words[16], words[24]) = (7, 1, u32::from_le_bytes([171, 178, 185, 192]));
@@ -243,20 +301,26 @@ gives refused 14 at 0
         assert_eq!(cases[1].gives.room[8..], [3, 0, 0, 0, 1, 0, 0, 0, 113]);
         assert_eq!(cases[1].gives, cases[1].case.answer());
         assert_eq!(cases[2].gives, cases[2].case.answer());
+        assert_eq!(cases[3].case.table, b"X86 t{x=-1;}P0;exists ");
+        assert_eq!(cases[3].gives, cases[3].case.answer());
+    }
+
+    // Of the file with one change.
+    fn wrong(from: &str, to: &str) -> String {
+        assert!(FILE.contains(from));
+        let read = read_cases(&FILE.replacen(from, to, 1));
+        read.unwrap_err().to_string()
     }
 
     #[test]
     fn wrong_files_are_explained() {
-        let wrong = |from: &str, to: &str| {
-            assert!(FILE.contains(from));
-            read_cases(&FILE.replacen(from, to, 1))
-                .unwrap_err()
-                .to_string()
-        };
         assert_eq!(wrong("EAX y", "EAX q"), "line 6: no such location: q");
         assert_eq!(wrong("D0 x1", "D0"), "line 9: the line ends early");
         assert_eq!(wrong("p3 EDX", "p4 EDX"), "line 10: no such processor: 4");
-        assert_eq!(wrong("check room 25", ""), "line 2: no check or finish");
+        assert_eq!(
+            wrong("check room 25", ""),
+            "line 2: no check or finish or litmus"
+        );
         assert_eq!(wrong("case\n", "\n"), "line 13: a second finish");
         assert_eq!(
             wrong("room 25", "room 23"),
@@ -278,6 +342,19 @@ gives refused 14 at 0
         assert_eq!(
             wrong("refused 14", "refused 0"),
             "line 26: not understood: gives refused 0 at 0"
+        );
+    }
+
+    #[test]
+    fn wrong_texts_are_explained() {
+        assert_eq!(wrong("\"X86", "X86"), "line 30: not in quotes: X86 t{x\"");
+        assert_eq!(
+            wrong("exists\\x20", "exists\\y"),
+            "line 31: no such escape: \\y"
+        );
+        assert_eq!(
+            wrong("litmus room 9", "litmus room 9\ntrace"),
+            "line 29: not understood: trace "
         );
     }
 }

@@ -1,29 +1,37 @@
 //! How often numbers are given.
 
 use crate::case::Case;
-use crate::generate;
+use crate::generate::Family;
 use crate::kinds::Step;
 use crate::record::records;
 use crate::reply::{self, Reply};
 use std::collections::BTreeMap;
 
 /// Each number's cases; those of 14 to 18 also by the kind of step that was turned down.
-#[derive(Default)]
 pub struct Tally {
+    family: Family,
     numbers: BTreeMap<u64, u64>,
     kinds: BTreeMap<(u64, Step), u64>,
 }
 
 /// Of generated cases, as this implementation answers them.
-pub fn tally(count: u64, seed: u64) -> Tally {
-    let mut tally = Tally::default();
-    for case in (0..count).map(|number| generate::case(seed, number)) {
+pub fn tally(family: Family, count: u64, seed: u64) -> Tally {
+    let mut tally = Tally::new(family);
+    for case in (0..count).map(|number| family.case(seed, number)) {
         tally.add(&case, case.answer().reply);
     }
     tally
 }
 
 impl Tally {
+    pub fn new(family: Family) -> Tally {
+        Tally {
+            family,
+            numbers: BTreeMap::new(),
+            kinds: BTreeMap::new(),
+        }
+    }
+
     pub fn add(&mut self, case: &Case, reply: Reply) {
         *self.numbers.entry(reply.number).or_default() += 1;
         if let Some(kind) = turned_down(case, reply) {
@@ -31,22 +39,25 @@ impl Tally {
         }
     }
 
-    /// Two tables: the numbers, and 14 to 18 by kinds of steps.
+    /// The numbers and, of traces, 14 to 18 by kinds of steps.
     pub fn text(&self) -> String {
-        aligned(&self.by_number()) + "\n" + &aligned(&self.by_kind())
+        match self.family {
+            Family::Traces => self.by_number(reply::numbers()) + "\n" + &self.by_kind(),
+            Family::Texts => self.by_number(reply::OF_A_TEXT),
+        }
     }
 
-    fn by_number(&self) -> Vec<Vec<String>> {
+    fn by_number(&self, all: impl IntoIterator<Item = u64>) -> String {
         let (mut numbers, mut cases) = (vec!["number".into()], vec!["cases".into()]);
-        for number in reply::numbers() {
+        for number in all {
             numbers.push(number.to_string());
             cases.push(count(self.numbers.get(&number)));
         }
-        vec![numbers, cases]
+        aligned(&[numbers, cases])
     }
 
     /// A dash where the rule of the step has no such condition.
-    fn by_kind(&self) -> Vec<Vec<String>> {
+    fn by_kind(&self) -> String {
         let mut rows = vec![vec!["number".into()]];
         rows[0].extend(Step::ALL.map(|kind| format!("{kind:?}").to_lowercase()));
         for number in reply::OF_A_STEP {
@@ -58,7 +69,7 @@ impl Tally {
             row.extend(Step::ALL.map(cell));
             rows.push(row);
         }
-        rows
+        aligned(&rows)
     }
 }
 
@@ -106,8 +117,10 @@ number read write drain fence lock unlock local
 
     #[test]
     fn all_numbers_are_told() {
-        assert_eq!(tally(0, 1).text(), NONE);
-        let (numbers, kinds) = (tally(100, 1).numbers, tally(100, 1).kinds);
+        assert_eq!(tally(Family::Traces, 0, 1).text(), NONE);
+        let texts = "number 0 6 7 13 19 20 21\ncases  0 0 0  0  0  0  0\n";
+        assert_eq!(tally(Family::Texts, 0, 1).text(), texts);
+        let Tally { numbers, kinds, .. } = tally(Family::Traces, 100, 1);
         assert_eq!(numbers.values().sum::<u64>(), 100);
         let of_steps: u64 = numbers
             .range(reply::OF_A_STEP)

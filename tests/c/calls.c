@@ -199,6 +199,37 @@ static void longest(void)
     check("longest, checked", table, trace, WORDS, AMBERCELL_DONE, 320, zeros);
 }
 
+/* In a room of so many bytes, which begins with these records afterwards. */
+static void litmus(const char *name, const char *text, size_t bytes, uint64_t number, uint64_t place, file records)
+{
+    uint8_t memory[AROUND + BYTES + AROUND], expected[AROUND + BYTES + AROUND];
+    for (size_t i = 0; i < AROUND + BYTES + AROUND; i++)
+        memory[i] = expected[i] = (uint8_t)(200 + i % 50);
+    if (records.length)
+        memcpy(expected + AROUND, records.bytes, records.length);
+    ambercell_answer got = ambercell_litmus((const uint8_t *)text, text ? strlen(text) : 0,
+                                            bytes ? memory + AROUND : NULL, bytes);
+    compare(name, got, number, place, memcmp(memory, expected, sizeof memory) == 0);
+}
+
+static void texts(void)
+{
+    const char *small = "X86 SB\n{ x=0; 0:EAX=5; }\n P0          | P1          ;\n MOV [x],$1  | MOV [y],EBX ;\n"
+                        " MFENCE      |             ;\n LOCK XADD [x],EAX | MOV ECX,$-1 ;\nexists (x=1)\n";
+    file seven = FILE_OF(RECORD(AMBERCELL_MEMORY, 0, 0, X, 0), RECORD(AMBERCELL_REGISTER, 0, EAX, 0, 5),
+                         RECORD(AMBERCELL_STORE, 0, 0, X, 1), RECORD(AMBERCELL_STORE_REGISTER, 1, EBX, Y, 0), FENCE(0),
+                         RECORD(AMBERCELL_LOCKED_EXCHANGE_ADD, 0, EAX, X, 0), RECORD(AMBERCELL_SET, 1, 2, 0, 0xffffffffu));
+
+    litmus("document 01's small text", small, seven.length, AMBERCELL_DONE, 7, seven);
+    litmus("the same in a byte less", small, seven.length - 1, AMBERCELL_ROOM_TOO_SMALL, seven.length, NONE);
+    litmus("no text", NULL, AMBERCELL_LITMUS_BYTES, AMBERCELL_TEXT_GRAMMAR, 0, NONE);
+    litmus("no records, no room", "X86 t{}P0;exists", 0, AMBERCELL_DONE, 0, NONE);
+    litmus("a text that ends too early", "X86 t{}P0;", BYTES, AMBERCELL_TEXT_GRAMMAR, 10, NONE);
+    litmus("processor 4", "X86 t{4:EAX=1;}P0;exists", BYTES, AMBERCELL_TEXT_LIMIT, 6, NONE);
+    litmus("2^32", "X86 t{x=4294967296;}P0;exists", BYTES, AMBERCELL_TEXT_CONSTANT, 8, NONE);
+    litmus("a cell twice", "X86 t{x=0;x=0;}P0;exists", BYTES, AMBERCELL_CELL_TWICE, 1, NONE);
+}
+
 int main(void)
 {
     table_refusals();
@@ -207,6 +238,7 @@ int main(void)
     finishes();
     kinds();
     longest();
+    texts();
     printf("%d calls, %d wrong\n", calls, wrong);
     return wrong != 0;
 }

@@ -5,7 +5,6 @@ ghost use Rattle.litmus_model.specs.Call.{imported};
 ghost use Rattle.ambercell.specs.Replies.{replyIn, Tells};
 use checker::check;
 use checker::finish;
-use litmus::litmus;
 use model::answer::Answer;
 use model::number::number;
 
@@ -49,5 +48,5 @@ pub extern "C" fn ambercell_finish(table: &[u8], trace: &[u8], room: &mut [u8]) 
 pub extern "C" fn ambercell_litmus(text: &[u8], room: &mut [u8]) -> CAnswer
     ensures { λ r. ⌜ replyIn r (now (room .exit)) ≡ imported (now (text .entry)) (now (room .entry)) ⌝ }
 {
-    numbered(litmus::litmus(text, room))
+    numbered(litmus::litmus::litmus(text, room))
 }

@@ -1,4 +1,4 @@
-// The head of a case: which call, and the bytes of its table, its trace and its room.
+// The head of a case: which call, and the bytes of its table, its trace and its room. A litmus text stands in the table's place.
 ghost use mathlib.Core.Path.{_≡_};
 ghost use lib.ListN.{length};
 ghost use Rattle.case.specs.Parts.{Fits, noHead, headIn};
@@ -30,6 +30,8 @@ impl Head {
 
     pub const FINISH: u32 = 1;
 
+    pub const LITMUS: u32 = 2;
+
     // Of no case.
     pub fn none() -> Head
         ensures { λ r. ⌜ r ≡ noHead ⌝ }
@@ -47,14 +49,14 @@ impl Head {
 
 pub fn head_of(bytes: &[u8]) -> Head
     requires { do ⌜ length (now bytes) ≡ (← ⟦Head::BYTES⟧) ⌝ }
-    ensures { λ r. do ⌜ r ≡ headIn (← ⟦Head::FINISH⟧ .entry) (← ⟦MOST⟧ .entry) (now (bytes .entry)) ⌝ }
+    ensures { λ r. do ⌜ r ≡ headIn (← ⟦Head::LITMUS⟧ .entry) (← ⟦MOST⟧ .entry) (now (bytes .entry)) ⌝ }
     ensures { λ r. do ⌜ Fits (← ⟦MOST⟧ .entry) r ⌝ }
 {
     let call = value_at(bytes, Head::CALL);
     let table = value_at(bytes, Head::TABLE) as usize;
     let trace = value_at(bytes, Head::TRACE) as usize;
     let room = value_at(bytes, Head::ROOM) as usize;
-    if (call <= Head::FINISH) & (table <= MOST) & (trace <= MOST) & (room <= MOST) {
+    if (call <= Head::LITMUS) & (table <= MOST) & (trace <= MOST) & (room <= MOST) {
         return Head {
             whole: true,
             call: call,

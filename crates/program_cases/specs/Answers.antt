@@ -5,6 +5,7 @@ use Prim.Native.Nat.{ℕ, _*_}
 use lib.ListN.{length, drop}
 use Rattle.model.specs.Calls.{checked, completed}
 use Rattle.model.specs.Sizes.{wordSize}
+use Rattle.litmus_model.specs.Call.{imported}
 use Rattle.ambercell.specs.declared.CAnswer.{CAnswer}
 use Rattle.ambercell.specs.Replies.{replyIn}
 use Rattle.case.specs.Words.{wordsIn, bytesIn}
@@ -20,6 +21,12 @@ module _ (table trace room words : List ℕ) (answer : CAnswer) (room′ words�
     pub reply : replyIn answer room′ ≡ completed table trace room
     pub unchanged : words′ ≡ words
 
-abbrev pub Answers : ℕ → ℕ → List ℕ → List ℕ → List ℕ → List ℕ → CAnswer → List ℕ → List ℕ → Type 0
-Answers finish call table trace room words answer room′ words′ =
-    (call ≡ finish → Finishes table trace room words answer room′ words′) × (¬ (call ≡ finish) → Checks table trace room words answer room′ words′)
+  -- a litmus text, in the table's place, is read into the room's bytes
+  pub record Imports : Type 0 where
+    pub reply : replyIn answer room′ ≡ imported table room
+    pub unchanged : words′ ≡ words
+
+abbrev pub Answers : ℕ → ℕ → ℕ → List ℕ → List ℕ → List ℕ → List ℕ → CAnswer → List ℕ → List ℕ → Type 0
+Answers finish litmus call table trace room words answer room′ words′ =
+    (call ≡ finish → Finishes table trace room words answer room′ words′) × (call ≡ litmus → Imports table trace room words answer room′ words′)
+    × (¬ (call ≡ finish) → ¬ (call ≡ litmus) → Checks table trace room words answer room′ words′)

@@ -5,6 +5,7 @@ ghost use Rattle.program_cases.specs.Answers.{Checks, Answers};
 use ambercell::CAnswer;
 use ambercell::ambercell_check;
 use ambercell::ambercell_finish;
+use ambercell::ambercell_litmus;
 use case::head::Head;
 use case::words::read_words;
 use case::words::write_words;
@@ -23,10 +24,13 @@ fn check(table: &[u8], trace: &[u8], room: &mut [u8], words: &mut [u32]) -> CAns
 
 pub fn answer(call: u32, table: &[u8], trace: &[u8], room: &mut [u8], words: &mut [u32]) -> CAnswer
     requires { do ⌜ length (now words) * (← ⟦WORD⟧) ≤ length (now room) ⌝ }
-    ensures { λ r. do ⌜ Answers (← ⟦Head::FINISH⟧ .entry) call (now (table .entry)) (now (trace .entry)) (now (room .entry)) (now (words .entry)) r (now (room .exit)) (now (words .exit)) ⌝ }
+    ensures { λ r. do ⌜ Answers (← ⟦Head::FINISH⟧ .entry) (← ⟦Head::LITMUS⟧ .entry) call (now (table .entry)) (now (trace .entry)) (now (room .entry)) (now (words .entry)) r (now (room .exit)) (now (words .exit)) ⌝ }
 {
     if call == Head::FINISH {
         return ambercell_finish(table, trace, room);
+    }
+    if call == Head::LITMUS {
+        return ambercell_litmus(table, room);
     }
     check(table, trace, room, words)
 }

@@ -61,7 +61,7 @@ pub fn read_head() -> Head
     let head = head_of(&bytes);
     if !head.whole {
         complain(
-            b"cases: a call is 0 or 1, and a table, a trace or a room has at most 1048576 bytes\n",
+            b"cases: a call is 0, 1 or 2, and a table, a trace or a room has at most 1048576 bytes\n",
         );
     }
     head

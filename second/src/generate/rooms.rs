@@ -1,16 +1,10 @@
 //! Lent rooms: too small, exact, larger; filled with anything.
 
-use crate::calls::finish;
 use crate::case::Call;
 use crate::dice::Dice;
-use crate::run::CELLS;
 
-pub fn room(dice: &mut Dice, call: Call, table: &[u8], trace: &[u8]) -> Vec<u8> {
-    let needed = match call {
-        Call::Check => CELLS,
-        // Finishing in no room says what it needs.
-        Call::Finish => finish(table, trace, &mut []).place as usize,
-    };
+/// A room for a call that needs so many words or bytes.
+pub fn room(dice: &mut Dice, call: Call, needed: usize) -> Vec<u8> {
     let lent = match dice.below(8) {
         0 => dice.below(needed + 1),
         1 => needed.saturating_sub(1),

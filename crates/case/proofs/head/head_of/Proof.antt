@@ -6,9 +6,9 @@ use Rattle.case.proofs.head.head_of.Statement.{statement}
 use Rattle.case.proofs.head.head_of.Tie as tie
 
 -- the four words are those of the bytes
-words : (c : tie.After-value-at4) → headOf 1 1048576 (c .before .before .before .value-at .result) (c .before .before .value-at2 .result) (c .before .value-at3 .result) (c .value-at4 .result)
-    ≡ headIn 1 1048576 (c .before .before .before .before .before .args .bytes .now)
-words c = λ k. headOf 1 1048576 (c .before .before .before .value-at .ensures k) (c .before .before .value-at2 .ensures k) (c .before .value-at3 .ensures k) (c .value-at4 .ensures k)
+words : (c : tie.After-value-at4) → headOf 2 1048576 (c .before .before .before .value-at .result) (c .before .before .value-at2 .result) (c .before .value-at3 .result) (c .value-at4 .result)
+    ≡ headIn 2 1048576 (c .before .before .before .before .before .args .bytes .now)
+words c = λ k. headOf 2 1048576 (c .before .before .before .value-at .ensures k) (c .before .before .value-at2 .ensures k) (c .before .value-at3 .ensures k) (c .value-at4 .ensures k)
 
 returns : tie.Need-returns
 returns c = let h = of-case _ _ _ _ _ _ (c .if1 .taken) in (h .0 ∙ words (c .before), h .1)

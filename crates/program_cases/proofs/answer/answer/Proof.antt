@@ -1,4 +1,5 @@
-use mathlib.Core.Path.{refl}
+use native.Mathlib.Omega.{arith}
+use mathlib.Core.Path.{refl, sym, _∙_}
 use borrow.Author.Needs.{needs}
 use Rattle.program_cases.proofs.answer.answer.Statement.{statement}
 use Rattle.program_cases.proofs.answer.answer.Tie as tie
@@ -6,14 +7,18 @@ use Rattle.program_cases.proofs.answer.answer.Tie as tie
 returns : tie.Need-returns
 returns c =
     let finish = c .before .before in
-    let test = finish .before .before in
-    (λ e. record { reply = finish .ambercell-finish .ensures; unchanged = refl }, λ f. absurd (f (test .if1 .taken)))
+    let one = c .before .before .before .before .if1 .taken in
+    (λ e. record { reply = finish .ambercell-finish .ensures; unchanged = refl }, λ e. absurd (omega arith), λ f g. absurd (f one))
 
 returns-2 : tie.Need-returns-2
 returns-2 c =
-    let check = c .before .before .before .before in
-    let test = check .before .before .before in
-    (λ e. absurd (test .if1 .left e), λ f. check .check .ensures)
+    let litmus = c .before .before in
+    let two = c .before .before .before .before .if2 .taken in
+    (λ e. absurd (c .before .before .before .before .before .if1 .left e), λ e. record { reply = litmus .ambercell-litmus .ensures; unchanged = refl }, λ f g. absurd (g two))
+
+returns-3 : tie.Need-returns-3
+returns-3 c =
+    (λ e. absurd (c .before .before .before .before .before .before .before .before .if1 .left e), λ e. absurd (c .before .before .before .before .before .before .before .if2 .left e), λ f g. c .before .before .before .before .check .ensures)
 
 pub answer-spec : {M : Type 1} → statement M
 answer-spec =
@@ -24,5 +29,8 @@ answer-spec =
     returns
     (λ c κs. search needs)
     (λ c. search needs)
+    returns-2
+    (λ c κs. search needs)
     (λ c. search needs)
-    returns-2)
+    (λ c. search needs)
+    returns-3)

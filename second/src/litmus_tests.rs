@@ -6,14 +6,17 @@
 //!
 //! The trace of a test that allows or requires is a run that meets the condition. The trace of one
 //! that forbids is a nearest trace, and is refused where that one goes wrong.
+//!
+//! Beside the file of a test stands its litmus text, which gives the same table and ends with the
+//! same condition.
 
-use crate::case::Call;
+use crate::case::{Answer, Call, Case};
 use crate::kinds::Step;
 use crate::record::{records, Record};
 use crate::reply::{self, Reply};
 use crate::run::{Run, CELLS};
 use crate::search::{meets, nearest, outcomes};
-use crate::stated::{read_cases, Stated};
+use crate::stated::{marks, read_cases, Stated};
 use crate::table::{self, Table};
 use crate::text::{self, Wrong};
 use std::path::Path;
@@ -34,21 +37,25 @@ pub struct Litmus {
     pub condition: Vec<(usize, u32)>,
 }
 
-/// The tests of a folder's files `*.txt`, by name.
-pub fn read_folder(folder: &Path) -> Result<Vec<Litmus>, String> {
+/// The tests of a folder's files `*.txt`, by name, each with the case of its litmus text.
+pub fn read_folder(folder: &Path) -> Result<Vec<(Litmus, Stated)>, String> {
     let mut tests = Vec::new();
     let about = |path: &Path, why: &dyn std::fmt::Display| format!("{}: {why}", path.display());
     for entry in folder.read_dir().map_err(|why| about(folder, &why))? {
         let path = entry.map_err(|why| about(folder, &why))?.path();
         if path.to_string_lossy().ends_with(".txt") {
             let text = std::fs::read_to_string(&path).map_err(|why| about(&path, &why))?;
-            tests.push(read(&text).map_err(|why| about(&path, &why))?);
+            let test = read(&text).map_err(|why| about(&path, &why))?;
+            let path = path.with_extension("litmus");
+            let text = std::fs::read(&path).map_err(|why| about(&path, &why))?;
+            let text = as_text(&test, text).map_err(|why| about(&path, &why))?;
+            tests.push((test, text));
         }
     }
     if tests.is_empty() {
         return Err(format!("{}: no litmus test", folder.display()));
     }
-    tests.sort_by(|one, other| one.stated.name.cmp(&other.stated.name));
+    tests.sort_by(|(one, _), (other, _)| one.stated.name.cmp(&other.stated.name));
     Ok(tests)
 }
 
@@ -99,6 +106,50 @@ fn litmus(stated: Stated, verdict: Verdict, condition: Vec<(usize, u32)>) -> Res
         verdict,
         condition,
     })
+}
+
+/// The case in which the test's litmus text gives its table.
+fn as_text(test: &Litmus, text: Vec<u8>) -> Result<Stated, String> {
+    let end = end_of_text(test);
+    if !text.ends_with(end.as_bytes()) {
+        return Err(format!("does not end with {end}"));
+    }
+    let table = &test.stated.case.table;
+    let before = marks(table.len() + Record::BYTES);
+    let room = [&table[..], &before[table.len()..]].concat();
+    Ok(Stated {
+        name: format!("{}, its litmus text", test.stated.name),
+        case: Case {
+            call: Call::Litmus,
+            table: text,
+            trace: Vec::new(),
+            room: before,
+        },
+        gives: Answer {
+            reply: Reply::new(reply::DONE, table.len() / Record::BYTES),
+            room,
+        },
+        line: 1,
+    })
+}
+
+/// Verdict and condition as a litmus text has them, with the locations' names as in the test.
+fn end_of_text(test: &Litmus) -> String {
+    let word = match test.verdict {
+        Verdict::Allow => "exists",
+        Verdict::Forbid => "~exists",
+        Verdict::Require => "forall",
+    };
+    let mut cells = Vec::new();
+    for &(cell, value) in &test.condition {
+        let named = text::cell_text(cell, value);
+        let words: Vec<&str> = named.split(' ').collect();
+        cells.push(match words[..] {
+            [processor, register, value] => format!("{}:{register}={value}", &processor[1..]),
+            _ => words.join("="),
+        });
+    }
+    format!("\n{word} ({})\n", cells.join(" /\\ "))
 }
 
 #[derive(Clone, Debug, PartialEq, Eq)]
@@ -209,7 +260,7 @@ fn end(table: &Table, trace: &[Record], false_read: Option<usize>) -> Result<[u3
 mod tests {
     use super::*;
 
-    fn shipped() -> Vec<Litmus> {
+    fn shipped() -> Vec<(Litmus, Stated)> {
         read_folder(&Path::new(env!("CARGO_MANIFEST_DIR")).join("../tests/litmus")).unwrap()
     }
 
@@ -217,8 +268,10 @@ mod tests {
     fn all_tests_of_source_000_are_validated() {
         let tests = shipped();
         assert!(tests.len() >= 25);
-        for test in tests.iter().map(judge) {
-            assert!(test.validated() && test.fault.is_none(), "{test:?}");
+        for (test, text) in &tests {
+            let judged = judge(test);
+            assert!(judged.validated() && judged.fault.is_none(), "{judged:?}");
+            assert_eq!(text.case.answer(), text.gives, "{}", text.name);
         }
     }
 
@@ -242,6 +295,17 @@ mod tests {
         assert_eq!(fault("EBX 0", "EBX 1"), "does not end in the condition");
         assert_eq!(read(&text.replace("allow", "# allow")).unwrap_err().line, 1);
         assert_eq!(read(&text.replace("EBX 0", "EBX")).unwrap_err().line, 5);
+    }
+
+    #[test]
+    fn a_text_with_another_end_is_found() {
+        for (test, text) in shipped() {
+            let bytes = text.case.table;
+            assert!(as_text(&test, bytes[..bytes.len() - 1].to_vec()).is_err());
+            let other = [&bytes[..bytes.len() - 3], b"7)\n"].concat();
+            assert!(as_text(&test, other).is_err(), "{}", text.name);
+            assert!(as_text(&test, bytes).is_ok());
+        }
     }
 
     #[test]
