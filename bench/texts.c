@@ -239,16 +239,14 @@ static const struct kind kinds[KINDS] = {
     {"one name", name, AMBERCELL_DONE, 0},
 };
 
-static struct text text;
-
-static void make(const struct kind *k, size_t size)
+static void make(struct text *t, const struct kind *k, size_t size)
 {
-    text.letters = 8;
-    text.wrong = 0;
-    text.blanks = 8;
-    text.length = 0;
-    k->make(&text, size);
-    if (text.length != size)
+    t->letters = 8;
+    t->wrong = 0;
+    t->blanks = 8;
+    t->length = 0;
+    k->make(t, size);
+    if (t->length != size)
         abort();
 }
 
@@ -376,10 +374,10 @@ static void damage(struct text *t)
 
 static void agree_random(void)
 {
-    enum { TEXTS = 5000, DAMAGED = 8 };
-    static struct text other;
+    enum { SMALL = 5000, DAMAGED = 8 };
+    static struct text text, other;
 
-    for (int i = 0; i < TEXTS; i++) {
+    for (int i = 0; i < SMALL; i++) {
         text.letters = 1 + below(8);
         text.wrong = below(3) == 0 ? 40 : 0;
         text.blanks = below(8) == 0 ? 0 : 2 + below(6);
@@ -398,6 +396,7 @@ static void agree_random(void)
 static void agree_examples(const char *path)
 {
     static const char arrow[] = "\xe2\x86\x92 ";
+    static struct text text;
     char line[4096];
     unsigned long found = 0;
     FILE *file = fopen(path, "r");
@@ -438,11 +437,12 @@ static void agree_examples(const char *path)
 
 static void agree(const char *examples)
 {
+    static struct text text;
     unsigned long all = 0;
 
     agree_examples(examples);
     for (const struct kind *k = kinds; k < kinds + KINDS; k++) {
-        make(k, SIZE);
+        make(&text, k, SIZE);
         stated(&text, k->number, k->place);
     }
     agree_random();
@@ -470,49 +470,72 @@ static int order(const void *a, const void *b)
     return (x > y) - (x < y);
 }
 
-/* Milliseconds of a call of each: the medians of rounds in which they take turns. */
-static void measure(double taken[IMPLEMENTATIONS])
+static double timed(int by, const struct text *t)
 {
-    enum { ROUNDS = 11 };
-    static double rounds[IMPLEMENTATIONS][ROUNDS];
     static uint8_t room[AMBERCELL_LITMUS_BYTES];
+    double begin = now();
+    implementations[by].litmus(t->bytes, t->length, room, sizeof room);
+    return now() - begin;
+}
 
-    for (int round = -1; round < ROUNDS; round++)
-        for (int i = 0; i < IMPLEMENTATIONS; i++) {
-            int turn = (round + 1 + i) % IMPLEMENTATIONS;
-            double begin = now();
-            implementations[turn].litmus(text.bytes, text.length, room, sizeof room);
-            if (round >= 0) /* the first is not counted */
-                rounds[turn][round] = now() - begin;
+enum { ROUNDS = 11, GROWN = 3, TEXTS = KINDS + GROWN - 1 };
+
+/* In each round all texts, of each kind and then the first kind shorter, are read by both in turns. */
+static struct text texts[TEXTS];
+static double taken[TEXTS][IMPLEMENTATIONS][ROUNDS], ratios[TEXTS][ROUNDS];
+
+static void measure(void)
+{
+    for (int round = -1; round < ROUNDS; round++) /* the first is not counted */
+        for (int i = 0; i < TEXTS; i++) {
+            double ms[IMPLEMENTATIONS];
+            for (int turn = 0; turn < IMPLEMENTATIONS; turn++) {
+                int by = (round + 1 + turn) % IMPLEMENTATIONS;
+                ms[by] = timed(by, &texts[i]);
+            }
+            if (round < 0)
+                continue;
+            for (int by = 0; by < IMPLEMENTATIONS; by++)
+                taken[i][by][round] = ms[by];
+            ratios[i][round] = ms[0] / ms[1];
         }
-    for (int i = 0; i < IMPLEMENTATIONS; i++) {
-        qsort(rounds[i], ROUNDS, sizeof rounds[i][0], order);
-        taken[i] = rounds[i][ROUNDS / 2];
+    for (int i = 0; i < TEXTS; i++) {
+        for (int by = 0; by < IMPLEMENTATIONS; by++)
+            qsort(taken[i][by], ROUNDS, sizeof taken[i][by][0], order);
+        qsort(ratios[i], ROUNDS, sizeof ratios[i][0], order);
     }
+}
+
+static double median(const double sorted[ROUNDS])
+{
+    return sorted[ROUNDS / 2];
 }
 
 static void time_all(void)
 {
-    double taken[IMPLEMENTATIONS], largest = 0;
     const double most = 5;
+    double largest = 0;
+
+    for (int i = 0; i < KINDS; i++)
+        make(&texts[i], &kinds[i], SIZE);
+    for (int i = 1; i < GROWN; i++)
+        make(&texts[KINDS - 1 + i], &kinds[0], SIZE >> i);
+    measure();
 
     printf("\n| Text | MB | ambercell: ms | gcc -O2: ms | ambercell / gcc | ambercell: MB/s |\n|---|---|---|---|---|---|\n");
-    for (const struct kind *k = kinds; k < kinds + KINDS; k++) {
-        make(k, SIZE);
-        measure(taken);
-        double mb = SIZE / 1e6, ratio = taken[0] / taken[1];
-        printf("| %s | %.1f | %.1f | %.1f | **%.2f** | %.0f |\n", k->says, mb, taken[0], taken[1], ratio, 1e3 * mb / taken[0]);
-        fflush(stdout);
+    for (int i = 0; i < KINDS; i++) {
+        double mb = SIZE / 1e6, ms = median(taken[i][0]), ratio = median(ratios[i]);
+        printf("| %s | %.1f | %.1f | %.1f | **%.2f** (%.2f to %.2f) | %.0f |\n", kinds[i].says, mb, ms, median(taken[i][1]), ratio,
+               ratios[i][0], ratios[i][ROUNDS - 1], 1e3 * mb / ms);
         largest = ratio > largest ? ratio : largest;
     }
     printf("\nThe largest ratio is %.2f; at most %.0f is asked for: %s.\n", largest, most, largest <= most ? "kept" : "NOT KEPT");
 
-    printf("\n| %s: MB | ambercell: ms | a MB | gcc -O2: ms | a MB |\n|---|---|---|---|---|\n", kinds[0].says);
-    for (size_t size = SIZE / 4; size <= SIZE; size *= 2) {
-        make(&kinds[0], size);
-        measure(taken);
-        double mb = (double)size / 1e6;
-        printf("| %.1f | %.1f | %.2f | %.1f | %.2f |\n", mb, taken[0], taken[0] / mb, taken[1], taken[1] / mb);
+    printf("\n| MB of the first | ambercell: ms | a MB | gcc -O2: ms | a MB |\n|---|---|---|---|---|\n");
+    for (int i = GROWN - 1; i >= 0; i--) {
+        int text = i == 0 ? 0 : KINDS - 1 + i;
+        double mb = (double)texts[text].length / 1e6, library = median(taken[text][0]), plain = median(taken[text][1]);
+        printf("| %.1f | %.1f | %.2f | %.1f | %.2f |\n", mb, library, library / mb, plain, plain / mb);
     }
 }
 
