@@ -212,6 +212,26 @@ static void initial_cells(struct text *t, size_t size)
     add(t, "}P0;exists");
 }
 
+/* One cell again and again: of the texts that were tried, those with the largest ratios. */
+static void same_cell(struct text *t, size_t size, const char *cell)
+{
+    add(t, "X86 t{");
+    while (t->length + strlen(cell) + 10 <= size)
+        add(t, cell);
+    fill(t, size - 10, " ");
+    add(t, "}P0;exists");
+}
+
+static void same_location(struct text *t, size_t size)
+{
+    same_cell(t, size, "x=0;");
+}
+
+static void same_register(struct text *t, size_t size)
+{
+    same_cell(t, size, "0:EAX=0;");
+}
+
 static void empty_cells(struct text *t, size_t size)
 {
     add(t, "X86 t{}P0;");
@@ -225,13 +245,15 @@ struct kind {
     uint64_t number, place; /* the answer, from docs/LITMUS.md */
 };
 
-enum { KINDS = 9 };
+enum { KINDS = 11 };
 
 static const struct kind kinds[KINDS] = {
     {"rows of instructions, 7 at the last record that can be", late_seventeenth, AMBERCELL_SEVENTEENTH, 88},
     {"rows of instructions, a cell twice before them", cell_twice, AMBERCELL_CELL_TWICE, 24},
     {"rows of instructions, then no end", no_end, AMBERCELL_TEXT_GRAMMAR, SIZE},
     {"initial cells", initial_cells, AMBERCELL_CELL_TWICE, 24},
+    {"`x=0;` again and again", same_location, AMBERCELL_CELL_TWICE, 1},
+    {"`0:EAX=0;` again and again", same_register, AMBERCELL_CELL_TWICE, 1},
     {"empty cells: a row a byte", empty_cells, AMBERCELL_DONE, 0},
     {"one run of blanks", blanks, AMBERCELL_DONE, 1},
     {"one constant, of zeros and a 7", zeros, AMBERCELL_DONE, 1},
