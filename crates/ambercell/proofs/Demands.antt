@@ -1,4 +1,5 @@
--- What the contracts of the calls from C promise: an answer and a room that make the definition's reply meet the demands, and there is no second outcome.
+-- What the contracts of the calls from C promise: an answer and a room that make the definition's reply meet the demands, a text gets one of
+-- the replies of litmus_model's `Imports`, and there is no second outcome.
 use mathlib.Core.Path.{_≡_, sym, ap, _∙_}
 use mathlib.Core.List.{List}
 use Prim.Native.Nat.{ℕ}
@@ -7,6 +8,9 @@ use Rattle.model.specs.Calls.{checked, completed}
 use Rattle.model.specs.Promises.{CheckMeets, FinishMeets}
 use Rattle.model.proofs.Demands.{check-meets}
 use Rattle.model.proofs.Completed.{finish-meets}
+use Rattle.litmus_model.specs.Imports.{Imports}
+use Rattle.litmus_model.specs.Call.{imported}
+use Rattle.litmus_model.proofs.Imports.{imports-exactly}
 use Rattle.ambercell.specs.declared.CAnswer.{CAnswer}
 use Rattle.ambercell.specs.Replies.{replyIn}
 
@@ -16,6 +20,9 @@ module _ (table trace room : List ℕ) (answer : CAnswer) (after : List ℕ) whe
 
   pub finish-demands-in-c : replyIn answer after ≡ completed table trace room → FinishMeets table trace room (replyIn answer after)
   finish-demands-in-c ensures = finish-meets table trace room (replyIn answer after) ensures
+
+pub litmus-imports-in-c : (text room : List ℕ) (answer : CAnswer) (after : List ℕ) → replyIn answer after ≡ imported text room → Imports text room (replyIn answer after)
+litmus-imports-in-c text room answer after ensures = imports-exactly text room (replyIn answer after) .0 (sym ensures)
 
 -- ---- no second outcome
 

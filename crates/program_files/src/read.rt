@@ -1,4 +1,4 @@
-// Reads a whole file of at most MOST bytes.
+// Reads a whole file of at most so many bytes: of a record file at most MOST.
 ghost use Prim.Native.Nat.{_≤_};
 ghost use lib.ListN.{length};
 ghost use mathlib.Core.Path.{_≡_};
@@ -17,11 +17,11 @@ pub enum File {
 }
 
 // n bytes came before the end of the file, or of the buffer.
-fn whole(n: usize) -> File
-    ensures { λ r. do ⌜ r ≡ wholeOr (← ⟦MOST⟧ .entry) n ⌝ }
-    ensures { λ r. do ⌜ Within r (← ⟦MOST⟧ .entry) ⌝ }
+fn whole(n: usize, most: usize) -> File
+    ensures { λ r. ⌜ r ≡ wholeOr most n ⌝ }
+    ensures { λ r. ⌜ Within r most ⌝ }
 {
-    if n <= MOST {
+    if n <= most {
         File::Whole(n)
     } else {
         File::TooLong
@@ -34,8 +34,9 @@ fn read_on(fd: i32, bytes: &mut [u8], n: usize) -> isize
     libc::read(fd, &mut bytes[n..])
 }
 
-fn read_all(fd: i32, bytes: &mut [u8]) -> File
-    ensures { λ r. do ⌜ Within r (← ⟦MOST⟧ .entry) ⌝ }
+// The buffer is longer than the most that a file may have: what comes behind that tells a file that is too long.
+pub fn read_all(fd: i32, bytes: &mut [u8], most: usize) -> File
+    ensures { λ r. ⌜ Within r most ⌝ }
 {
     let mut n: usize = 0;
     while n < bytes.len() {
@@ -45,11 +46,11 @@ fn read_all(fd: i32, bytes: &mut [u8]) -> File
         }
         let more = io::count(got, &bytes[n..]);
         if more == 0 {
-            return whole(n);
+            return whole(n, most);
         }
         n = n + more;
     }
-    whole(n)
+    whole(n, most)
 }
 
 // Reads the file of that name in the current folder.
@@ -61,7 +62,7 @@ pub fn read_file(name: &[u8], bytes: &mut [u8]) -> File
     if fd < 0 {
         return File::Missing;
     }
-    let file = read_all(fd, bytes);
+    let file = read_all(fd, bytes, MOST);
     libc::close(fd);
     file
 }

@@ -7,10 +7,10 @@ use Rattle.program_files.proofs.read.read_all.Statement.{statement}
 use Rattle.program_files.proofs.read.read_all.Tie as tie
 
 abbrev Inv-loop : tie.InvT-loop
-Inv-loop fd bytes₀ n₀ bytes n = (n ≤ length bytes) × (length bytes ≡ length bytes₀)
+Inv-loop fd bytes₀ most n₀ bytes n = (n ≤ length bytes) × (length bytes ≡ length bytes₀)
 
 abbrev μ-loop : tie.MeasureT-loop
-μ-loop fd bytes₀ n₀ bytes n = length bytes₀ - n
+μ-loop fd bytes₀ most n₀ bytes n = length bytes₀ - n
 
 pub read-all-spec : {M : Type 1} → statement M
 read-all-spec =

@@ -1,0 +1,157 @@
+// What could stand at a place of a litmus text: each sample is tried there, by the call itself.
+ghost use mathlib.Core.Path.{_≡_};
+ghost use mathlib.Core.List.{[]};
+ghost use Prim.Native.Nat.{_+_, _≤_, _<_};
+ghost use lib.ListN.{length, take};
+ghost use Rattle.model.specs.Reply.{replyOf};
+ghost use Rattle.program_read.specs.Standing.{goesOn, canStand};
+use crate::samples::ROW;
+use crate::samples::ROWS;
+use crate::samples::SAMPLE;
+use crate::samples::row_at;
+use crate::samples::trimmed;
+use litmus::litmus::litmus;
+use model::answer::Answer;
+use model::answer::Refusal;
+use model::number::number;
+use text::put::put_byte;
+use text::put::put_word;
+
+// What is put behind a text to try a sample: a blank, and the sample.
+pub const TRIED: usize = SAMPLE + 1;
+
+// What is put between words.
+const BETWEEN: usize = 4;
+
+const WORDS: usize = ROW - SAMPLE;
+
+// No list of words is longer.
+pub const LIST: usize = ROWS * (BETWEEN + WORDS);
+
+// Which samples can stand, and how many they are.
+pub struct Standing {
+    pub which: [bool; ROWS],
+    pub many: usize,
+}
+
+// The answer is to a text of that size.
+fn goes_on(answer: Answer, size: usize) -> bool
+    ensures { λ r. ⌜ r ≡ goesOn (replyOf answer []) size ⌝ }
+{
+    match answer {
+        Answer::Done(_) => true,
+        Answer::Refused(why, place) => {
+            (number(why) != number(Refusal::TextGrammar)) | (place == size)
+        }
+    }
+}
+
+// Whether the sample can stand at the place, behind what stands before it. Overwrites what stands there.
+pub fn can_stand(text: &mut [u8], place: usize, sample: &[u8]) -> bool
+    requires { ⌜ place + length (now sample) < length (now text) ⌝ }
+    ensures { λ r. ⌜ r ≡ canStand (take place (now (text .entry))) (now (sample .entry)) ⌝ }
+    ensures { λ r. ⌜ take place (now (text .exit)) ≡ take place (now (text .entry)) ⌝ }
+{
+    let first = put_byte(text, place, b' ');
+    let end = put_word(text, first, sample);
+    let mut room = [0u8; 0];
+    goes_on(litmus(&text[..end], &mut room), end)
+}
+
+// The same for the sample of a row.
+fn row_can_stand(text: &mut [u8], place: usize, row: [u8; ROW]) -> bool
+    requires { do ⌜ place + (← ⟦TRIED⟧) ≤ length (now text) ⌝ }
+{
+    can_stand(text, place, &row[..SAMPLE])
+}
+
+// Where a name can stand, whatever else can is a name too.
+fn rows(text: &mut [u8], place: usize) -> usize
+    requires { do ⌜ place + (← ⟦TRIED⟧) ≤ length (now text) ⌝ }
+    ensures { λ r. do ⌜ r ≤ (← ⟦ROWS⟧ .entry) ⌝ }
+{
+    if row_can_stand(text, place, row_at(0)) {
+        return 1;
+    }
+    ROWS
+}
+
+fn one_if(can: bool) -> usize
+    ensures { λ r. ⌜ r ≤ 1 ⌝ }
+{
+    if can { 1 } else { 0 }
+}
+
+pub fn standing_at(text: &mut [u8], place: usize) -> Standing
+    requires { do ⌜ place + (← ⟦TRIED⟧) ≤ length (now text) ⌝ }
+{
+    let end = rows(text, place);
+    let mut which = [false; ROWS];
+    let mut many: usize = 0;
+    let mut k: usize = 0;
+    while k < end {
+        let can = row_can_stand(text, place, row_at(k));
+        which[k] = can;
+        many += one_if(can);
+        k += 1;
+    }
+    Standing {
+        which: which,
+        many: many,
+    }
+}
+
+// Before the words behind `done` others, of so many.
+fn put_between(out: &mut [u8], at: usize, done: usize, many: usize) -> usize
+    requires { do ⌜ at + (← ⟦BETWEEN⟧) ≤ length (now out) ⌝ }
+    requires { do ⌜ done ≤ (← ⟦ROWS⟧) ⌝ }
+    ensures { λ r. do ⌜ r ≤ at + (← ⟦BETWEEN⟧ .entry) ⌝ }
+{
+    if done == 0 {
+        return at;
+    }
+    if done + 1 == many {
+        return put_word(out, at, b" or ");
+    }
+    put_word(out, at, b", ")
+}
+
+fn put_words(out: &mut [u8], at: usize, row: [u8; ROW]) -> usize
+    requires { do ⌜ at + (← ⟦WORDS⟧) ≤ length (now out) ⌝ }
+    ensures { λ r. do ⌜ r ≤ at + (← ⟦WORDS⟧ .entry) ⌝ }
+{
+    let end = trimmed(&row);
+    put_word(out, at, &row[SAMPLE..end])
+}
+
+// Those of row k, if its sample can stand.
+fn put_row(out: &mut [u8], at: usize, k: usize, can: bool, done: usize, many: usize) -> usize
+    requires { do ⌜ at + (← ⟦BETWEEN⟧) + (← ⟦WORDS⟧) ≤ length (now out) ⌝ }
+    requires { do ⌜ k < (← ⟦ROWS⟧) ⌝ }
+    requires { do ⌜ done ≤ (← ⟦ROWS⟧) ⌝ }
+    ensures { λ r. do ⌜ r ≤ at + (← ⟦BETWEEN⟧ .entry) + (← ⟦WORDS⟧ .entry) ⌝ }
+{
+    if !can {
+        return at;
+    }
+    let at = put_between(out, at, done, many);
+    put_words(out, at, row_at(k))
+}
+
+// The words of all samples that can stand.
+pub fn put_standing(out: &mut [u8], at: usize, standing: Standing) -> usize
+    requires { do ⌜ at + (← ⟦LIST⟧) ≤ length (now out) ⌝ }
+    ensures { λ r. do ⌜ r ≤ at + (← ⟦LIST⟧ .entry) ⌝ }
+{
+    let which = standing.which;
+    let mut next = at;
+    let mut done: usize = 0;
+    let mut k: usize = 0;
+    while k < ROWS {
+        let can = which[k];
+        next = put_row(out, next, k, can, done, standing.many);
+        done += one_if(can);
+        k += 1;
+    }
+    next
+}
