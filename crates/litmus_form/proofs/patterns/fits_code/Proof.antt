@@ -138,7 +138,9 @@ returns-11 c = c .is-dollar .ensures ∙ arm (c .before .before .before .before 
 returns-12 : tie.Need-returns-12
 returns-12 c =
     let c3 = c .before .before .before in
-    fits-none (c3 .args .code) (c3 .args .t .now) (c .before .if1 .left) (c .match .rest .0 .0 .0 .0 .0 .0 .0 .0 .0 .1) (c .match .rest .0 .0 .0 .0 .0 .0 .0 .0 .1) (c .match .rest .0 .0 .0 .0 .0 .0 .0 .1) (c .match .rest .0 .0 .0 .0 .0 .0 .1) (c .match .rest .0 .0 .0 .0 .0 .1) (c .match .rest .0 .0 .0 .0 .1) (c .match .rest .0 .0 .0 .1) (c .match .rest .0 .0 .1) (c .match .rest .0 .1) (c .match .rest .1)
+    let r = c .match .rest in
+    let q = r .0 .0 .0 .0 in
+    fits-none (c3 .args .code) (c3 .args .t .now) (c .before .if1 .left) (q .0 .0 .0 .0 .0 .1) (q .0 .0 .0 .0 .1) (q .0 .0 .0 .1) (q .0 .0 .1) (q .0 .1) (q .1) (r .0 .0 .0 .1) (r .0 .0 .1) (r .0 .1) (r .1)
 
 pub fits-code-spec : {M : Type 1} → statement M
 fits-code-spec =

@@ -219,7 +219,8 @@ loop-again c =
     let k = c8 in
     let o = c4 .note .ensures in
     let w = c .before .before .noted .given .1 in (
-      λ place mk al bl. rw add-one (turn-on _ _ _ _ _ _ _ _ _ (l .loop .inv .0 place mk al bl) _ (n .next-token .ensures .0) (e .if1 .left) _ _ _ mk (l .loop .inv .5) (twelve-left a) (a .advance .ensures) (t .first-alive .ensures) (k .before .if2 .left) _ (k .code-at .ensures) _ (o .0) w (c .if3 .left)),
+      λ place mk al bl.
+          rw add-one (turn-on _ _ _ _ _ _ _ _ _ (l .loop .inv .0 place mk al bl) _ (n .next-token .ensures .0) (e .if1 .left) _ _ _ mk (l .loop .inv .5) (twelve-left a) (a .advance .ensures) (t .first-alive .ensures) (k .before .if2 .left) _ (k .code-at .ensures) _ (o .0) w (c .if3 .left)),
       turn-shorter _ _ _ _ _ _ _ _ _ rd _ (n .next-token .ensures .0) (e .if1 .left) _ _ _ m (l .loop .inv .5) (twelve-left a) (a .advance .ensures) (t .first-alive .ensures) (k .before .if2 .left) _ (k .code-at .ensures) (c .if3 .left),
       o .1,
       omega arith,

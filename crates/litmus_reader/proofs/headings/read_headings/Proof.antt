@@ -137,7 +137,8 @@ returns-4 c =
     let l = c12 .loop .inv in
     let a = c11 .next-token .ensures in
     let b = c6 .next-token2 .ensures in
-    record { says = λ seen rs. l .0 seen rs ∙ heading-on _ _ _ _ seen rs (a .0) (sym (c9 .is-heading .ensures) ∙ not-false _ (c8 .if1 .left)) (below _ (l .1) (c7 .if2 .left)) ∙ mark-refused _ _ _ _ seen rs (b .0) (sym (c4 .is-mark .ensures) ∙ c3 .if3 .left) (sym (c .before .is-mark2 .ensures) ∙ not-true _ (c .if4 .taken)); further = tt }
+    let h = sym (c9 .is-heading .ensures) ∙ not-false _ (c8 .if1 .left) in
+    record { says = λ seen rs. l .0 seen rs ∙ heading-on _ _ _ _ seen rs (a .0) h (below _ (l .1) (c7 .if2 .left)) ∙ mark-refused _ _ _ _ seen rs (b .0) (sym (c4 .is-mark .ensures) ∙ c3 .if3 .left) (sym (c .before .is-mark2 .ensures) ∙ not-true _ (c .if4 .taken)); further = tt }
 
 -- src/headings.rt:37:5
 loop-less : tie.Need-loop-less Inv-loop μ-loop
