@@ -173,32 +173,37 @@ static void no_end(struct text *t, size_t size)
     fill_rows(t, size);
 }
 
+/* The middle again and again. */
+static void stretched(struct text *t, size_t size, const char *head, const char *middle, const char *tail)
+{
+    add(t, head);
+    fill(t, size - strlen(tail), middle);
+    add(t, tail);
+}
+
 static void blanks(struct text *t, size_t size)
 {
-    add(t, "X86 t{}P0;");
-    fill(t, size - 13, "  \n \r\n   ");
-    add(t, "MFENCE;exists");
+    stretched(t, size, "X86 t{}P0;", "  \n \r\n   ", "MFENCE;exists");
 }
 
 static void zeros(struct text *t, size_t size)
 {
-    add(t, "X86 t{}P0;MOV [x],$-");
-    fill(t, size - 8, "0");
-    add(t, "7;exists");
+    stretched(t, size, "X86 t{}P0;MOV [x],$-", "0", "7;exists");
 }
 
 static void digits(struct text *t, size_t size)
 {
-    add(t, "X86 t{}P0;MOV [x],$");
-    fill(t, size - 7, "3141592653589793");
-    add(t, ";exists");
+    stretched(t, size, "X86 t{}P0;MOV [x],$", "3141592653589793", ";exists");
 }
 
 static void name(struct text *t, size_t size)
 {
-    add(t, "X86 ");
-    fill(t, size - 11, "name\t|;$}\xc3\x9f\x01-~");
-    add(t, "{}P0;exists");
+    stretched(t, size, "X86 ", "name\t|;$}\xc3\x9f\x01-~", "{}P0;exists");
+}
+
+static void empty_cells(struct text *t, size_t size)
+{
+    stretched(t, size, "X86 t{}P0;", ";", "exists");
 }
 
 static void initial_cells(struct text *t, size_t size)
@@ -230,13 +235,6 @@ static void same_location(struct text *t, size_t size)
 static void same_register(struct text *t, size_t size)
 {
     same_cell(t, size, "0:EAX=0;");
-}
-
-static void empty_cells(struct text *t, size_t size)
-{
-    add(t, "X86 t{}P0;");
-    fill(t, size - 6, ";");
-    add(t, "exists");
 }
 
 struct kind {

@@ -12,8 +12,7 @@
  * a program to begin from.
  *
  * Link with libambercell.a, which `rt staticlib ambercell` writes to target/staticlib: x86-64 with
- * System V calls, as on Linux. It needs nothing else to link but memcpy and memset, which every C
- * compiler demands of a program.
+ * System V calls, as on Linux. It needs nothing else to link.
  */
 #ifndef AMBERCELL_H
 #define AMBERCELL_H

@@ -28,15 +28,15 @@ module _ (text room : List ℕ) where
   unfolding replied
   refused-text n i e = replies (refused n i) (then-refused (readText text) tabled n i e)
 
-  of-records : (rs : List Record) → readText text ≡ passed rs → (bytes : List ℕ) (n : ℕ) → Keeps bytes n rs
-      → (out : Answer) (after : List ℕ) → Tabled bytes n room out after → replyOf out after ≡ imported text room
-  of-records rs e bytes n k out after t =
+  of-records : (rs : List Record) → readText text ≡ passed rs → (words : List ℕ) (n : ℕ) → Keeps words n rs
+      → (out : Answer) (after : List ℕ) → Tabled words n room out after → replyOf out after ≡ imported text room
+  of-records rs e words n k out after t =
       t .each rs k (gives-table text rs (reads-exactly text (passed rs) .0 e) .small) ∙ replies (tabled rs) (then-passed (readText text) tabled rs e)
 
-  module _ (out : Answer) (bytes : List ℕ) (t : TextRead text out bytes) where
+  module _ (out : Answer) (words : List ℕ) (t : TextRead text out words) where
     pub text-refused : (why : Refusal) (place : ℕ) → out ≡ answer.Refused why place → refuse (numberOf why) place room ≡ imported text room
     text-refused why place e = refused-text (numberOf why) place (t .says ∙ ap (λ (o : Answer). answeredBy o (t .rs)) e)
 
-    pub text-tabled : (n : ℕ) → out ≡ answer.Done n → (last : Answer) (after : List ℕ) → Tabled bytes n room last after → replyOf last after ≡ imported text room
+    pub text-tabled : (n : ℕ) → out ≡ answer.Done n → (last : Answer) (after : List ℕ) → Tabled words n room last after → replyOf last after ≡ imported text room
     text-tabled n e last after x =
-        of-records (t .rs) (t .says ∙ ap (λ (o : Answer). answeredBy o (t .rs)) e) bytes n (subst (λ (o : Answer). Counts o bytes (t .rs)) e (t .counts)) last after x
+        of-records (t .rs) (t .says ∙ ap (λ (o : Answer). answeredBy o (t .rs)) e) words n (subst (λ (o : Answer). Counts o words (t .rs)) e (t .counts)) last after x

@@ -1,29 +1,24 @@
--- The verdict on a table, from its reading.
-use mathlib.Core.Path.{_≡_, refl, ap, _∙_}
+-- The verdict on records in words, from the loop that enters them.
+use mathlib.Core.Path.{_≡_, sym, ap, _∙_}
 use mathlib.Core.List.{List}
 use Prim.Native.Nat.{ℕ}
-use Rattle.model.specs.declared.answer.Verdict.{Verdict}
-use Rattle.model.specs.declared.answer.Verdict.the-variants.{Passed, Refused}
-use Rattle.model.specs.declared.table.Cells.{Cells}
-use Rattle.model.specs.Machine.{Machine}
+use lib.ListN.{length, getD, length-map, List·getD-map}
+use Rattle.model.specs.declared.record.Record.{Record}
 use Rattle.model.specs.Kinds.{Entry}
-use Rattle.model.specs.Table.{start}
-use Rattle.model.specs.Tests.{Tested, passed, refused, andThen}
-use Rattle.model.specs.Reading.{reading}
-use Rattle.model.specs.Code.{Columns, testedOf, startOf}
-use Rattle.table.specs.Reads.{Reads}
+use Rattle.model.specs.Tests.{passed, refused}
+use Rattle.model.proofs.Tests.{then-passed, then-refused}
+use Rattle.record.specs.Words.{recordIn, recordsIn}
+use Rattle.table.proofs.Turns.{all}
 use Rattle.litmus.specs.Tabled.{judged}
 
--- what a pass gives is left behind
-left-behind : (v : Verdict) (m : Machine) → testedOf {A = Unit {0}} v tt ≡ andThen (testedOf v m) (λ n. passed tt)
-unfolding andThen
-left-behind Passed m = refl
-left-behind (Refused why place) m = refl
+pub many : (words : List ℕ) → length (recordsIn words) ≡ length words
+many words = length-map words recordIn
 
-start-behind : (t : Tested (List Entry)) → _≡_ {A = Tested (Unit {0})} (andThen (andThen t (λ entries. passed (start entries))) (λ m. passed tt)) (andThen t (λ entries. passed tt))
-unfolding andThen
-start-behind (passed entries) = refl
-start-behind (refused n i) = refl
+pub record-in : (words : List ℕ) (i : ℕ) (r : Record) → r ≡ recordIn (getD words i 0) → r ≡ getD (recordsIn words) i (recordIn 0)
+record-in words i r e = e ∙ sym (List·getD-map recordIn words i 0)
 
-pub judges : (table : List ℕ) (v : Verdict) (g : Columns) (c : Cells) → Reads table v g c → testedOf v tt ≡ judged table
-judges table v g c r = left-behind v (startOf g c) ∙ ap (λ (t : Tested Machine). andThen t (λ n. passed tt)) (r .says) ∙ start-behind (reading table)
+pub judges-refused : (rs : List Record) (n i : ℕ) → all rs ≡ refused n i → refused n i ≡ judged rs
+judges-refused rs n i h = sym (then-refused (all rs) (λ es. passed tt) n i h)
+
+pub judges-passed : (rs : List Record) (es : List Entry) → all rs ≡ passed es → passed tt ≡ judged rs
+judges-passed rs es h = sym (then-passed (all rs) (λ fs. passed tt) es h)

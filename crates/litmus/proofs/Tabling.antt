@@ -1,11 +1,14 @@
 -- The reply to the records of a text, from the first of them: a table that has more than 88 is refused within its first 89.
-use mathlib.Core.Path.{_≡_, sym, ap, _∙_}
+use mathlib.Core.Path.{_≡_, refl, sym, ap, _∙_}
+use mathlib.Core.Bool.{Bool, true, false}
 use mathlib.Core.Logic.{⊎-elim}
 use mathlib.Core.List.{List, [], _∷_, _++_, append-assoc}
 use Prim.Native.Nat.{ℕ, zero, suc, _*_, _/_, _≤_, _<_, min}
 use native.Mathlib.Omega.{arith}
 use lib.ListN.{length, take, drop, length-take, take-append-drop, length-map}
-use lib.Seq.{take-all, take-length, take-append-seam, length-take-le}
+use lib.Seq.{take-all, length-take-le}
+use lib.Dec.{leb}
+use borrow.Author.Tests.{leb-true, leb-false}
 use Rattle.model.specs.declared.answer.Answer.the-variants as answer
 use Rattle.model.specs.declared.answer.Refusal.{Refusal}
 use Rattle.model.specs.declared.answer.Refusal.the-variants.{RoomTooSmall}
@@ -29,6 +32,7 @@ use Rattle.model.proofs.Records.{most-records}
 use Rattle.model.proofs.Replies.{written-fits, written-not}
 use Rattle.model.proofs.Tests.{passed-refused, and-then-passed, and-then-refused, then-passed, then-refused}
 use Rattle.model.proofs.Words.{file-length}
+use Rattle.record.specs.Words.{recordsIn}
 use Rattle.litmus_model.specs.Call.{tabled, placed}
 use Rattle.litmus_reader.specs.Keeping.{most, Keeps}
 use Rattle.litmus.specs.Tabled.{judged, Tabled}
@@ -49,98 +53,101 @@ refuses-all f i a k rs n j h =
     let parts = sym (take-append-drop k rs) ∙ ap (λ (l : List Record). l ++ drop k rs) (x .found) ∙ append-assoc (x .before) (x .r ∷ x .after) (drop k rs) in
     ap (inOrder f i a) parts ∙ in-order-at f i a (x .given) (x .before) (x .r) (x .after ++ drop k rs) n j (x .passes) (x .refuses)
 
-few : (table : List ℕ) (entries : List Entry) → reading table ≡ passed entries → length table / recordSize ≤ 88
-few table entries h =
-    let r = readable-exactly table entries .0 h in
-    let l : length entries ≡ length table / recordSize = ap length (readable-sound table entries r .given) ∙ length-map (records table) entryOf ∙ length-records table in
-    let m = most-records table entries r in
+few : (rs : List Record) (entries : List Entry) → All Small rs → inOrder readRecord 0 [] rs ≡ passed entries → length rs ≤ 88
+unfolding reading
+few rs entries small h =
+    let l = file-length rs in
+    let readable = readable-exactly (fileOf rs) entries .0 (file-whole 1 readRecord [] (fileOf rs) (omega arith) ∙ ap (inOrder readRecord 0 []) (records-file rs small) ∙ h) in
+    let m = most-records (fileOf rs) entries readable in
+    let many = ap length (readable-sound (fileOf rs) entries readable .given) ∙ length-map (records (fileOf rs)) entryOf ∙ ap length (records-file rs small) in
     omega arith
 
--- ---- the bytes of the records that are kept
+-- ---- the records that are kept
 
-module _ (bytes : List ℕ) (n end : ℕ) (long : length bytes ≡ recordSize * most) (cut : end ≡ recordSize * min most n) where
-  abbrev table : List ℕ
-  table = take end bytes
+take-least : {A : Type 0} (m n : ℕ) (l : List A) → length l ≡ m → take (min m n) l ≡ take n l
+take-least m n l e = go (leb m n) refl
+  where
+    go : (b : Bool) → leb m n ≡ b → take (min m n) l ≡ take n l
+    go true t = let h = leb-true m n t in take-all (min m n) l (omega arith) ∙ sym (take-all n l (omega arith))
+    go false t = let h = leb-false m n t in let least : min m n ≡ n = omega arith in ap (λ (i : ℕ). take i l) least
 
-  pub table-long : length table ≡ end
-  table-long = length-take-le end bytes (omega arith)
+module _ (words : List ℕ) (n k : ℕ) (long : length words ≡ most) (cut : k ≡ min most n) where
+  abbrev kept : List Record
+  kept = recordsIn (take k words)
 
-  pub table-fits : (k : ℕ) → end ≤ k → length table ≤ k
-  table-fits k l = omega (arith, table-long)
+  pub words-long : length (take k words) ≡ k
+  words-long = length-take-le k words (omega arith)
 
-  given : passed tt ≡ judged table → (entries : List Entry) × (reading table ≡ passed entries)
-  given p = let e = and-then-passed (reading table) (λ es. passed tt) tt (sym p) in (e .0, e .1)
+  pub words-fit : (m : ℕ) → recordSize * k ≤ m → length (take k words) * recordSize ≤ m
+  words-fit m l = omega (arith, words-long)
 
-  -- then they are all of them
-  all-kept : passed tt ≡ judged table → n < most
-  all-kept p = let e = given p in omega (arith, few table (e .0) (e .1), table-long)
-
-  module _ (room : List ℕ) (rs : List Record) (keeps : Keeps bytes n rs) (small : All Small rs) where
+  module _ (room : List ℕ) (rs : List Record) (keeps : Keeps words n rs) (small : All Small rs) where
     abbrev reply : Reply
     reply = replied room (tabled rs) (placed room)
 
-    file : table ≡ fileOf (take most rs)
-    file = (λ i. take (seam i) (keeps .bytes-are i)) ∙ take-append-seam (fileOf (take most rs)) _
-      where
-        seam : end ≡ length (fileOf (take most rs))
-        seam = let c = keeps .count-is in omega (arith, file-length (take most rs), length-take most rs)
-
-    read-first : reading table ≡ inOrder readRecord 0 [] (take most rs)
-    unfolding reading
-    read-first =
-        let l = file-length (take most rs) in
-        ap reading file ∙ file-whole 1 readRecord [] (fileOf (take most rs)) (omega arith)
-        ∙ ap (inOrder readRecord 0 []) (records-file (take most rs) (all-take Small most rs small))
+    first : kept ≡ take most rs
+    first = ap (λ (i : ℕ). recordsIn (take i words)) cut ∙ ap recordsIn (take-least most n words long) ∙ keeps .first
 
     -- 1 to 7
-    refuses : (m i : ℕ) → refused m i ≡ judged table → refuse m i room ≡ reply
+    refuses : (m i : ℕ) → refused m i ≡ judged kept → refuse m i room ≡ reply
     unfolding replied tabled
     refuses m i h =
         ap (λ (t : Tested (List Record)). replied room t (placed room))
-        (sym (then-refused (inOrder readRecord 0 [] rs) (λ es. passed rs) m i (refuses-all readRecord 0 [] most rs m i (sym read-first ∙ here))))
+        (sym (then-refused (inOrder readRecord 0 [] rs) (λ es. passed rs) m i (refuses-all readRecord 0 [] most rs m i (ap (inOrder readRecord 0 []) (sym first) ∙ here))))
       where
-        here : reading table ≡ refused m i
-        here = ⊎-elim (λ e. e) (λ e. passed-refused (e .2)) (and-then-refused (reading table) (λ es. passed tt) m i (sym h))
+        here : inOrder readRecord 0 [] kept ≡ refused m i
+        here = ⊎-elim (λ e. e) (λ e. passed-refused (e .2)) (and-then-refused (inOrder readRecord 0 [] kept) (λ es. passed tt) m i (sym h))
 
-    module _ (p : passed tt ≡ judged table) where
-      all : end ≡ recordSize * length rs
-      all = let c = keeps .count-is in omega (arith, all-kept p)
+    module _ (p : passed tt ≡ judged kept) where
+      given : (entries : List Entry) × (inOrder readRecord 0 [] (take most rs) ≡ passed entries)
+      given = let e = and-then-passed (inOrder readRecord 0 [] kept) (λ es. passed tt) tt (sym p) in (e .0, ap (inOrder readRecord 0 []) (sym first) ∙ e .1)
+
+      -- then they are all of them
+      fewer : length rs < most
+      fewer = let e = given in let f = few (take most rs) (e .0) (all-take Small most rs small) (e .1) in omega (arith, length-take most rs)
 
       same : take most rs ≡ rs
-      same = take-all most rs (let c = keeps .count-is in omega (arith, all-kept p))
+      same = take-all most rs (let f = fewer in omega arith)
+
+      many : k ≡ length rs
+      many = let c = keeps .count-is in let f = fewer in omega arith
+
+      end : recordSize * k ≡ recordSize * length rs
+      end = ap (λ (i : ℕ). recordSize * i) many
 
       passes : placed room rs ≡ reply
       unfolding replied tabled
       passes =
-          let e = given p in
           ap (λ (t : Tested (List Record)). replied room t (placed room))
-          (sym (then-passed (inOrder readRecord 0 [] rs) (λ es. passed rs) (e .0) (ap (inOrder readRecord 0 []) (sym same) ∙ sym read-first ∙ e .1)))
+          (sym (then-passed (inOrder readRecord 0 [] rs) (λ es. passed rs) (given .0) (ap (inOrder readRecord 0 []) (sym same) ∙ given .1)))
 
       -- 13
-      too-small : length room < end → refuse 13 end room ≡ reply
+      too-small : length room < recordSize * k → refuse 13 (recordSize * k) room ≡ reply
       unfolding placed
-      too-small l = ap (λ (k : ℕ). refuse 13 k room) all ∙ sym (written-not (length rs) (recordSize * length rs) (fileOf rs) room (omega (arith, all))) ∙ passes
+      too-small l = ap (λ (i : ℕ). refuse 13 i room) end ∙ sym (written-not (length rs) (recordSize * length rs) (fileOf rs) room (let m = many in omega arith)) ∙ passes
 
       -- 0
-      fills : end ≤ length room → (after : List ℕ) → after ≡ table ++ drop end room → done n after ≡ reply
+      fills : recordSize * k ≤ length room → (after : List ℕ) → after ≡ fileOf kept ++ drop (length (take k words) * recordSize) room → done n after ≡ reply
       unfolding placed
       fills l after e =
-          (λ i. done (keeps .count-is i) ((e ∙ (λ j. (file ∙ ap fileOf same) j ++ drop (all j) room)) i))
-          ∙ sym (written-fits (length rs) (recordSize * length rs) (fileOf rs) room (omega (arith, all))) ∙ passes
+          (λ i. done (keeps .count-is i) ((e ∙ (λ j. fileOf ((first ∙ same) j) ++ drop (behind j) room)) i))
+          ∙ sym (written-fits (length rs) (recordSize * length rs) (fileOf rs) room (let m = many in omega arith)) ∙ passes
+        where
+          behind : length (take k words) * recordSize ≡ recordSize * length rs
+          behind = let m = many in omega (arith, words-long)
 
   -- ---- so the answer is right
 
-  module _ (room : List ℕ) (v : Verdict) (says : testedOf v tt ≡ judged table) where
-    pub refused-table : (why : Refusal) (place : ℕ) → v ≡ verdict.Refused why place → Tabled bytes n room (answer.Refused why place) room
+  module _ (room : List ℕ) (v : Verdict) (says : testedOf v tt ≡ judged kept) where
+    pub refused-table : (why : Refusal) (place : ℕ) → v ≡ verdict.Refused why place → Tabled words n room (answer.Refused why place) room
     refused-table why place e =
         record { each = λ rs keeps small. refuses room rs keeps small (numberOf why) place (ap (λ (w : Verdict). testedOf {A = Unit {0}} w tt) (sym e) ∙ says) }
 
-    passing : v ≡ verdict.Passed → passed tt ≡ judged table
+    passing : v ≡ verdict.Passed → passed tt ≡ judged kept
     passing e = ap (λ (w : Verdict). testedOf {A = Unit {0}} w tt) (sym e) ∙ says
 
-    pub room-too-small : v ≡ verdict.Passed → length room < end → Tabled bytes n room (answer.Refused RoomTooSmall end) room
+    pub room-too-small : v ≡ verdict.Passed → length room < recordSize * k → Tabled words n room (answer.Refused RoomTooSmall (recordSize * k)) room
     room-too-small e l = record { each = λ rs keeps small. too-small room rs keeps small (passing e) l }
 
-    pub room-filled : v ≡ verdict.Passed → end ≤ length room → (after : List ℕ) → after ≡ take (length table) table ++ drop (length table) room → Tabled bytes n room (answer.Done n) after
-    room-filled e l after a =
-        record { each = λ rs keeps small. fills room rs keeps small (passing e) l after (a ∙ (λ j. take-length table j ++ drop (table-long j) room)) }
+    pub room-filled : v ≡ verdict.Passed → recordSize * k ≤ length room → (after : List ℕ) → after ≡ fileOf kept ++ drop (length (take k words) * recordSize) room → Tabled words n room (answer.Done n) after
+    room-filled e l after a = record { each = λ rs keeps small. fills room rs keeps small (passing e) l after a }

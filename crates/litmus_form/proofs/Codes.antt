@@ -60,10 +60,6 @@ one-more l j v f h before e k b = go (ℕ-discrete k j)
     go (yes p) = ap (λ (i : ℕ). getD (set l j v) i false) p ∙ getD-set-same l j v false h ∙ e ∙ ap f (sym p)
     go (no n) = getD-set-other l j k v false n ∙ before k (omega (arith, n))
 
-pub next-alive : (alive : List Bool) (mark at : ℕ) (t : Token) (j code : ℕ) (fitting : Bool) → code ≡ codeAt mark j at → fitting ≡ fits (patternAt code) t → getD alive j false && fitting ≡ aliveOn alive mark at t j
-unfolding aliveOn
-next-alive alive mark at t j code fitting e h = ap (λ (b : Bool). getD alive j false && b) (h ∙ ap (λ (k : ℕ). fits (patternAt k) t) e)
-
 pub none-before : (alive : List Bool) (j : ℕ) → ((k : ℕ) → k < j → getD alive k false ≡ false) → getD alive j false ≡ false → (k : ℕ) → k < j + 1 → getD alive k false ≡ false
 none-before alive j before e k h = go (ℕ-discrete k j)
   where

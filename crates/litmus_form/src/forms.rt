@@ -1,7 +1,9 @@
 // The forms of cells, and which of them are alive token by token: those that can still be meant.
 ghost use mathlib.Core.Path.{_≡_};
+ghost use mathlib.Core.Bool.{_&&_};
 ghost use Prim.Native.Nat.{_<_};
-ghost use Rattle.litmus_form.specs.Flags.{codeAt, Advanced, First};
+ghost use Rattle.litmus_model.specs.Forms.{fits};
+ghost use Rattle.litmus_form.specs.Flags.{patternAt, codeAt, Advanced, First};
 use crate::patterns::CONSTANT;
 use crate::patterns::DOLLAR;
 use crate::patterns::LOCATION;
@@ -53,6 +55,17 @@ pub fn code_at(mark: u8, j: usize, at: usize) -> u8
     code
 }
 
+// Whether form j is still alive behind the token, which is its token `at`.
+fn stays(alive: bool, mark: u8, j: usize, at: usize, t: &[u8]) -> bool
+    requires { ⌜ (j < 12) × (at < 8) ⌝ }
+    ensures { λ r. ⌜ r ≡ alive && fits (patternAt (codeAt mark j at)) (now (t .entry)) ⌝ }
+{
+    if !alive {
+        return false;
+    }
+    fits_code(code_at(mark, j, at), t)
+}
+
 // The forms that are still alive behind the token, which is their token `at`.
 pub fn advance(alive: [bool; COUNT], mark: u8, at: usize, t: &[u8]) -> [bool; COUNT]
     requires { ⌜ at < 8 ⌝ }
@@ -61,9 +74,7 @@ pub fn advance(alive: [bool; COUNT], mark: u8, at: usize, t: &[u8]) -> [bool; CO
     let mut next = [false; COUNT];
     let mut j = 0;
     while j < COUNT {
-        let code = code_at(mark, j, at);
-        let fitting = fits_code(code, t);
-        next[j] = alive[j] & fitting;
+        next[j] = stays(alive[j], mark, j, at, t);
         j += 1;
     }
     next

@@ -3,7 +3,7 @@ use mathlib.Core.Path.{_≡_, refl, ap, sym, _∙_, subst}
 use mathlib.Core.Bool.{Bool, true, false, cond, _||_}
 use mathlib.Core.Option.{Option, none, some}
 use mathlib.Core.Logic.{_⊎_, inl, inr}
-use mathlib.Core.List.{List, [], _∷_, _++_, map}
+use mathlib.Core.List.{List, [], _∷_, _++_, map, map-append}
 use Prim.Native.Nat.{ℕ, zero, suc}
 use native.Mathlib.Omega.{arith}
 use lib.Dec.{eqb}
@@ -116,10 +116,6 @@ record-stays seen m e i = λ j. record { kind = e .kind; processor = e .draft .p
 records-stay : (seen : List ℕ) (m : Mention) (es : List Entry) → AllIn seen es → map (recordOf (seenOn seen m)) es ≡ map (recordOf seen) es
 records-stay seen m [] a = refl
 records-stay seen m (e ∷ es) a = λ j. record-stays seen m e (a .0) j ∷ records-stay seen m es (a .1) j
-
-pub map-append : {A B : Type 0} (f : A → B) (l k : List A) → map f (l ++ k) ≡ map f l ++ map f k
-map-append f [] k = refl
-map-append f (a ∷ l) k = ap (λ r. f a ∷ r) (map-append f l k)
 
 records-more : (ss : List Said) (es fs : List Entry) (s : Said) → AllIn (letters ss) es
     → recordsOf (ss ++ (s ∷ [])) (es ++ fs) ≡ recordsOf ss es ++ map (recordOf (seenOn (letters ss) (s .says))) fs

@@ -1,7 +1,7 @@
 -- The records of a text: each is proper and can be written in bytes, and initial ones come first.
 use mathlib.Core.Path.{_≡_, refl, sym, _∙_, subst}
 use mathlib.Core.Bool.{Bool, true, false, cond}
-use mathlib.Core.List.{List, [], _∷_, _++_, map}
+use mathlib.Core.List.{List, [], _∷_, _++_, map, map-append}
 use Prim.Native.Nat.{ℕ, suc, _-_, _≤_, _<_}
 use native.Mathlib.Omega.{arith}
 use lib.ListN.{length, length-append}
@@ -22,7 +22,7 @@ use Rattle.litmus_model.specs.Answers.{among, letters, seenOn, seenAll, 
 use Rattle.litmus_model.proofs.Bools.{false-true}
 use Rattle.litmus_model.specs.Reader.{inRange}
 use Rattle.litmus_model.proofs.Faults.{in-among, range-in, in-range}
-use Rattle.litmus_model.proofs.Following.{keeps, has, map-append}
+use Rattle.litmus_model.proofs.Following.{keeps, has}
 use Rattle.litmus_model.proofs.Drafts.{Good, AllGood, isInitial, Sound, AllSound, cell-sound, row-cell-sound}
 
 -- ---- lists

@@ -39,9 +39,9 @@ pub record FormRead (text : List ℕ) (at : ℕ) (place : Place) (seen : List �
 -- ---- forms
 
 -- from that place on, up to the token that ends the initial cells or the rows, with the records kept before and after
-pub record FormsRead (text : List ℕ) (at : ℕ) (place : Place) (seen bytes : List ℕ) (count : ℕ) (out : Passage) (after bytesAfter : List ℕ) (countAfter : ℕ) : Type 0 where
-  pub each : (rs : List Record) → Keeps bytes count rs
-      → (all : List Record) × Keeps bytesAfter countAfter all × (answer text at (beginning (contextOf place)) seen rs ≡ onward out (λ j. answer text j (left (contextOf place)) after all))
+pub record FormsRead (text : List ℕ) (at : ℕ) (place : Place) (seen words : List ℕ) (count : ℕ) (out : Passage) (after wordsAfter : List ℕ) (countAfter : ℕ) : Type 0 where
+  pub each : (rs : List Record) → Keeps words count rs
+      → (all : List Record) × Keeps wordsAfter countAfter all × (answer text at (beginning (contextOf place)) seen rs ≡ onward out (λ j. answer text j (left (contextOf place)) after all))
 
 -- ---- a whole text
 
@@ -50,11 +50,11 @@ answeredBy (answered.Done n) rs = passed rs
 answeredBy (answered.Refused why place) rs = refused (numberOf why) place
 
 abbrev pub Counts : Answer → List ℕ → List Record → Type 0
-Counts (answered.Done n) bytes rs = Keeps bytes n rs
-Counts (answered.Refused why place) bytes rs = Unit {0}
+Counts (answered.Done n) words rs = Keeps words n rs
+Counts (answered.Refused why place) words rs = Unit {0}
 
--- the answer is the definition's, and after a pass the bytes are those of its records
-pub record TextRead (text : List ℕ) (out : Answer) (bytes : List ℕ) : Type 0 where
+-- the answer is the definition's, and after a pass the words have the first of its records
+pub record TextRead (text : List ℕ) (out : Answer) (words : List ℕ) : Type 0 where
   pub rs : List Record
   pub says : readText text ≡ answeredBy out rs
-  pub counts : Counts out bytes rs
+  pub counts : Counts out words rs

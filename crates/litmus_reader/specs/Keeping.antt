@@ -2,32 +2,24 @@
 use mathlib.Core.Path.{_≡_}
 use mathlib.Core.Bool.{cond}
 use mathlib.Core.List.{List, [], _∷_, _++_}
-use Prim.Native.Nat.{ℕ, _*_}
-use lib.ListN.{length, take, drop, replicate}
+use Prim.Native.Nat.{ℕ}
+use lib.ListN.{length, take}
 use lib.Dec.{eqb}
 use Rattle.model.specs.declared.record.Record.{Record}
-use Rattle.model.specs.Sizes.{recordSize}
-use Rattle.model.specs.Record.{fileOf}
+use Rattle.record.specs.Words.{recordsIn}
 
 -- how many are kept
 abbrev pub most : ℕ
 most = 89
 
--- their bytes, where none is kept yet
-abbrev pub zeros : List ℕ
-zeros = replicate (recordSize * most) 0
-
-abbrev pub kept : List Record → List ℕ
-kept rs = fileOf (take most rs) ++ drop (recordSize * length rs) zeros
-
--- these bytes and this count are those of the records
-pub record Keeps (bytes : List ℕ) (count : ℕ) (rs : List Record) : Type 0 where
-  pub bytes-are : bytes ≡ kept rs
+-- the count is that of the records, and so many words have the first of them
+pub record Keeps (words : List ℕ) (count : ℕ) (rs : List Record) : Type 0 where
+  pub first : recordsIn (take count words) ≡ take most rs
   pub count-is : count ≡ length rs
 
 -- an empty cell gives none
 abbrev pub given : Record → List Record
 given r = cond (eqb (r .kind) 0) [] (r ∷ [])
 
-pub record KeepsOn (bytes : List ℕ) (count : ℕ) (r : Record) (after : List ℕ) (countAfter : ℕ) : Type 0 where
-  pub each : (rs : List Record) → Keeps bytes count rs → Keeps after countAfter (rs ++ given r)
+pub record KeepsOn (words : List ℕ) (count : ℕ) (r : Record) (after : List ℕ) (countAfter : ℕ) : Type 0 where
+  pub each : (rs : List Record) → Keeps words count rs → Keeps after countAfter (rs ++ given r)

@@ -17,17 +17,14 @@ use litmus_form::place::next_in;
 use litmus_token::next::next_token;
 use model::record::Record;
 use model::table::Cells;
-use record::bytes::write_record;
+use record::word::packed;
 
 // No readable table has so many records: those behind them need not be kept to find that out.
 pub const MOST: usize = 89;
 
-// The bytes of so many.
-pub const BYTES: usize = MOST * Record::BYTES;
-
 // A record is counted, and kept if there is room. An empty cell gives none.
-fn keep<'a>(records: &'a mut [u8], count: &'a mut usize, r: Record)
-    requires { do ⌜ length (now records) ≡ (← ⟦BYTES⟧) ⌝ }
+fn keep<'a>(records: &'a mut [u64], count: &'a mut usize, r: Record)
+    requires { do ⌜ length (now records) ≡ (← ⟦MOST⟧) ⌝ }
     requires { ⌜ now count + 1 < 18446744073709551616 ⌝ }
     ensures { λ _. ⌜ KeepsOn (now (records .entry)) (now (count .entry)) r (now (records .exit)) (now (count .exit)) × (now (count .exit) ≤ now (count .entry) + 1) ⌝ }
 {
@@ -39,7 +36,7 @@ fn keep<'a>(records: &'a mut [u8], count: &'a mut usize, r: Record)
     if MOST <= n {
         return;
     }
-    write_record(records, n, r);
+    records[n] = packed(r);
 }
 
 pub fn read_forms<'a>(
@@ -48,14 +45,14 @@ pub fn read_forms<'a>(
     place: Place,
     seen: &'a mut [u8; Cells::LOCATIONS],
     letters: &'a mut usize,
-    records: &'a mut [u8],
+    records: &'a mut [u64],
     count: &'a mut usize,
 ) -> Passage
     requires { ⌜ (at ≤ length (now text)) × Sound place × (now letters ≤ locations) × (now count ≤ at) ⌝ }
-    requires { do ⌜ length (now records) ≡ (← ⟦BYTES⟧) ⌝ }
+    requires { do ⌜ length (now records) ≡ (← ⟦MOST⟧) ⌝ }
     ensures { λ out. ⌜ FormsRead (now (text .entry)) at place (seenIn (now (seen .entry)) (now (letters .entry))) (now (records .entry)) (now (count .entry))
         out (seenIn (now (seen .exit)) (now (letters .exit))) (now (records .exit)) (now (count .exit)) ⌝ }
-    ensures { λ out. do ⌜ Ahead (now (count .exit)) (now (text .entry)) out × (now (letters .exit) ≤ locations) × (length (now (records .exit)) ≡ (← ⟦BYTES⟧ .entry)) ⌝ }
+    ensures { λ out. do ⌜ Ahead (now (count .exit)) (now (text .entry)) out × (now (letters .exit) ≤ locations) × (length (now (records .exit)) ≡ (← ⟦MOST⟧ .entry)) ⌝ }
 {
     let mut place = place;
     let mut at = at;

@@ -1,8 +1,8 @@
 // A whole text.
 ghost use mathlib.Core.Path.{_≡_};
-ghost use lib.ListN.{length, replicate};
+ghost use lib.ListN.{length};
 ghost use Rattle.litmus_reader.specs.Forming.{TextRead};
-use crate::forms::BYTES;
+use crate::forms::MOST;
 use crate::forms::read_forms;
 use crate::head::read_head;
 use crate::headings::Headed;
@@ -12,9 +12,9 @@ use litmus_form::place::Place;
 use model::answer::Answer;
 use model::table::Cells;
 
-// How many records the text gives, and the first of them, in bytes that were zeros; or its refusal.
-pub fn read_text(text: &[u8], records: &mut [u8]) -> Answer
-    requires { do ⌜ now records ≡ replicate (← ⟦BYTES⟧) 0 ⌝ }
+// How many records the text gives, and the first of them in words; or its refusal.
+pub fn read_text(text: &[u8], records: &mut [u64]) -> Answer
+    requires { do ⌜ length (now records) ≡ (← ⟦MOST⟧) ⌝ }
     ensures { λ out. ⌜ TextRead (now (text .entry)) out (now (records .exit)) ⌝ }
 {
     let mut seen = [0u8; Cells::LOCATIONS];

@@ -10,11 +10,11 @@ use model::record::Record;
 pub const WORD: usize = Record::BYTES - Record::VALUE;
 
 // A byte is below it. In a value a byte counts so many times what the byte before counts: the second so much, the third and the fourth as follows.
-const BYTE: u32 = 256;
+pub const BYTE: u32 = 256;
 
-const THIRD: u32 = BYTE * BYTE;
+pub const THIRD: u32 = BYTE * BYTE;
 
-const FOURTH: u32 = BYTE * THIRD;
+pub const FOURTH: u32 = BYTE * THIRD;
 
 fn wide(byte: u8) -> u32
     ensures { λ r. do ⌜ (r ≡ byte) × (r < (← ⟦BYTE⟧ .entry)) ⌝ }
@@ -22,7 +22,7 @@ fn wide(byte: u8) -> u32
     byte as u32
 }
 
-fn value(a: u8, b: u8, c: u8, d: u8) -> u32
+pub fn value(a: u8, b: u8, c: u8, d: u8) -> u32
     ensures { λ r. ⌜ r ≡ valueOf a b c d ⌝ }
 {
     wide(a) + wide(b) * BYTE + wide(c) * THIRD + wide(d) * FOURTH
@@ -51,7 +51,7 @@ pub fn read_record(bytes: &[u8], i: usize) -> Record
     }
 }
 
-fn low(v: u32) -> u8
+pub fn low(v: u32) -> u8
     ensures { λ r. do ⌜ r ≡ v % (← ⟦BYTE⟧ .entry) ⌝ }
 {
     (v % BYTE) as u8

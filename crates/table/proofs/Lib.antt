@@ -4,3 +4,4 @@ pub mod More
 pub mod Holding
 pub mod Turns
 pub mod Beginning
+pub mod Files

@@ -1,112 +1,86 @@
--- A turn of the loop that reads a table, and its ends.
+-- A turn of a loop that enters records one by one, and its ends.
 use mathlib.Core.Path.{_≡_, sym, ap, _∙_, subst⁻¹}
 use mathlib.Core.Bool.{false}
-use mathlib.Core.List.{List, [], _∷_, _++_}
-use Prim.Native.Nat.{ℕ, zero, suc, _+_, _-_, _/_, _%_, _≤_, _<_}
-use native.Mathlib.Omega.{arith}
-use native.Mathlib.Nat.{sub-zero}
+use mathlib.Core.List.{List, [], _∷_, _++_, map, map-append}
+use Prim.Native.Nat.{ℕ, suc, _+_, _≤_, _<_}
 use native.Mathlib.Numerals.{add-one}
-use lib.ListN.{length}
+use lib.ListN.{length, take, drop, getD, drop-of-length-le}
+use lib.Seq.{take-suc, drop-cons}
 use Rattle.model.specs.declared.record.Record.{Record}
 use Rattle.model.specs.declared.answer.Refusal.{Refusal}
-use Rattle.model.specs.declared.answer.Refusal.the-variants.{TableLength}
 use Rattle.model.specs.declared.answer.Verdict.{Verdict}
 use Rattle.model.specs.declared.answer.Verdict.the-variants.{Passed, Refused}
 use Rattle.model.specs.declared.table.Cells.{Cells}
-use Rattle.model.specs.Sizes.{recordSize}
-use Rattle.model.specs.Record.{recordAt, recordsFrom, records}
 use Rattle.model.specs.Kinds.{Entry, entryOf}
 use Rattle.model.specs.Reply.{numberOf}
 use Rattle.model.specs.Tests.{Tested, passed, refused, unless, inOrder}
-use Rattle.model.specs.Reading.{readRecord, reading, ownTests}
+use Rattle.model.specs.Reading.{readRecord, ownTests}
 use Rattle.model.specs.Code.{Columns, testedOf, Fits, Sized}
-use Rattle.model.proofs.Tests.{then-passed, then-refused}
-use Rattle.model.proofs.InOrder.{in-order-more, in-order-stop, file-whole, file-not-whole}
+use Rattle.model.proofs.InOrder.{in-order-more, in-order-stop}
 use Rattle.model.proofs.Verdicts.{gives-none, gives-any}
 use Rattle.table_record.specs.Given.{Given, Formed, crowdedIn, placeTests, notedIn}
 use Rattle.table_record.proofs.Forms.{formed}
 use Rattle.table_record.specs.Enter.{cellsWith, programWith, ifPassed, Enters}
-use Rattle.table.specs.Reads.{noProgram, noCells, Reads}
-use Rattle.table.proofs.Holding.{Holds, fits-none, sized-none, tests-agree, next-holds}
+use Rattle.table.proofs.Holding.{Holds, tests-agree, next-holds}
 
 -- the entries of the first i records
-unfoldable pub entries : List ℕ → ℕ → List Entry
-entries table zero = []
-entries table (suc i) = entries table i ++ (entryOf (recordAt table i) ∷ [])
+abbrev pub entries : List Record → ℕ → List Entry
+entries rs i = map entryOf (take i rs)
 
--- what the records from i on give behind these entries, where there are n in all
-abbrev pub onward : List ℕ → ℕ → ℕ → Tested (List Entry)
-onward table n i = inOrder readRecord i (entries table i) (recordsFrom table i (n - i))
+-- what all records give, and what those from i on give behind these entries
+abbrev pub all : List Record → Tested (List Entry)
+all rs = inOrder readRecord 0 [] rs
 
--- ---- the ends
+abbrev pub onward : List Record → ℕ → Tested (List Entry)
+onward rs i = inOrder readRecord i (entries rs i) (drop i rs)
 
-refuses : (table : List ℕ) (g : Columns) (c : Cells) (why : Refusal) (place : ℕ) → Fits g → Sized c → reading table ≡ refused (numberOf why) place
-    → Reads table (Refused why place) g c
-refuses table g c why place f z h = record { says = sym (then-refused (reading table) _ (numberOf why) place h); fits = f; sized = z }
-
--- no multiple of 8
-pub odd : (table : List ℕ) (g : Columns) (c : Cells) → (g ≡ noProgram) × (c ≡ noCells) → ¬ (length table % recordSize ≡ 0)
-    → Reads table (Refused TableLength (length table / recordSize)) g c
-unfolding reading
-odd table g c z h =
-    refuses table g c TableLength (length table / recordSize) (subst⁻¹ Fits (z .0) fits-none) (subst⁻¹ Sized (z .1) sized-none) (file-not-whole 1 readRecord [] table h)
-
-pub begins : (table : List ℕ) → length table % recordSize ≡ 0 → onward table (length table / recordSize) 0 ≡ reading table
-unfolding reading entries records
-begins table h = rw sub-zero (sym (file-whole 1 readRecord [] table h))
-
-pub ends : (table : List ℕ) (g : Columns) (c : Cells) (s : Given) (n i : ℕ) → n ≤ i → Holds g c s (entries table i) → onward table n i ≡ reading table
-    → Reads table Passed g c
-unfolding inOrder recordsFrom
-ends table g c s n i l k e =
-    let z : n - i ≡ 0 = omega arith in
-    let p : reading table ≡ passed (entries table i) = sym (rw z at e) in
-    record { says = ap passed (k .machine) ∙ sym (then-passed (reading table) _ (entries table i) p); fits = k .fits; sized = k .sized }
-
--- ---- a turn
+pub ends : (rs : List Record) (i : ℕ) → length rs ≤ i → onward rs i ≡ all rs → all rs ≡ passed (entries rs i)
+unfolding inOrder
+ends rs i l e = sym e ∙ ap (inOrder readRecord i (entries rs i)) (drop-of-length-le rs {i = i} l)
 
 -- what a verdict leaves, once it is known
 leaves : {A : Type 0} (new old : A) {x : A} {v u : Verdict} → v ≡ u → x ≡ ifPassed v new old → x ≡ ifPassed u new old
 leaves new old e h = h ∙ ap (λ (w : Verdict). ifPassed w new old) e
 
--- record i is read, tested and entered
-module _ (table : List ℕ) {g : Columns} {c : Cells} {s : Given} {n i : ℕ} {r : Record} {v : Verdict} {h : Columns} {d : Cells} {w : Given} (inside : i < n)
-    (holds : Holds g c s (entries table i)) (rest : onward table n i ≡ reading table) (read : r ≡ recordAt table i) (entered : Enters g c s i r v h d w) where
+-- record i is tested and entered; where there is none, o would be read
+module _ (rs : List Record) (o : Record) {g : Columns} {c : Cells} {s : Given} {i : ℕ} {r : Record} {v : Verdict} {h : Columns} {d : Cells} {w : Given} (inside : i < length rs)
+    (holds : Holds g c s (entries rs i)) (rest : onward rs i ≡ all rs) (read : r ≡ getD rs i o) (entered : Enters g c s i r v h d w) where
   -- the entries so far, with that of r
   abbrev with-r : List Entry
-  with-r = entries table i ++ (entryOf r ∷ [])
+  with-r = entries rs i ++ (entryOf r ∷ [])
 
-  more : recordsFrom table i (n - i) ≡ r ∷ recordsFrom table (suc i) (n - suc i)
-  unfolding recordsFrom
-  more = let z : n - i ≡ suc (n - suc i) = omega arith in rw (z, read)
+  more : drop i rs ≡ r ∷ drop (suc i) rs
+  more = drop-cons rs i o inside ∙ ap (λ (q : Record). q ∷ drop (suc i) rs) (sym read)
 
-  judged : readRecord i (entries table i) r ≡ testedOf v with-r
+  judged : readRecord i (entries rs i) r ≡ testedOf v with-r
   unfolding readRecord
-  judged = sym (gives-any v (ownTests r ++ placeTests s g (entryOf r)) i with-r (entered .gives) ∙ ap (λ o. unless o i (passed with-r)) (tests-agree g c s (entries table i) holds r))
+  judged = sym (gives-any v (ownTests r ++ placeTests s g (entryOf r)) i with-r (entered .gives) ∙ ap (λ t. unless t i (passed with-r)) (tests-agree g c s (entries rs i) holds r))
 
   -- what there was before stays
-  pub stops : (why : Refusal) (place : ℕ) → v ≡ Refused why place → Reads table (Refused why place) h d
+  pub stops : (why : Refusal) (place : ℕ) → v ≡ Refused why place → (all rs ≡ refused (numberOf why) place) × Fits h × Sized d
   stops why place e =
-      let j : readRecord i (entries table i) r ≡ refused (numberOf why) place = judged ∙ ap (λ (u : Verdict). testedOf u with-r) e in
-      refuses table h d why place
-      (subst⁻¹ Fits (leaves (programWith g r (entryOf r)) g e (entered .program)) (holds .fits)) (subst⁻¹ Sized (leaves (cellsWith c (entryOf r)) c e (entered .cells)) (holds .sized))
-      (sym rest ∙ ap (inOrder readRecord i (entries table i)) more ∙ in-order-stop readRecord i (entries table i) r (recordsFrom table (suc i) (n - suc i)) (numberOf why) place j)
+      let j : readRecord i (entries rs i) r ≡ refused (numberOf why) place = judged ∙ ap (λ (u : Verdict). testedOf u with-r) e in (
+        sym rest ∙ ap (inOrder readRecord i (entries rs i)) more ∙ in-order-stop readRecord i (entries rs i) r (drop (suc i) rs) (numberOf why) place j,
+        subst⁻¹ Fits (leaves (programWith g r (entryOf r)) g e (entered .program)) (holds .fits),
+        subst⁻¹ Sized (leaves (cellsWith c (entryOf r)) c e (entered .cells)) (holds .sized),
+      )
 
   clear : v ≡ Passed → Formed r × (crowdedIn g (entryOf r) ≡ false)
   clear e = let a = gives-none v (ownTests r ++ placeTests s g (entryOf r)) i (entered .gives) e in (formed r (a .0) (a .1 .0) (a .1 .1 .0), a .1 .1 .1 .1 .1 .0)
 
-  grown : with-r ≡ entries table (i + 1)
-  unfolding entries
-  grown = rw (add-one, read)
+  grown : with-r ≡ entries rs (i + 1)
+  grown =
+      ap (λ (q : Record). entries rs i ++ (entryOf q ∷ [])) read ∙ sym (map-append entryOf (take i rs) (getD rs i o ∷ []))
+      ∙ ap (map entryOf) (sym (take-suc rs i o inside)) ∙ ap (entries rs) (sym (add-one i))
 
-  pub holds-on : v ≡ Passed → Holds h d w (entries table (i + 1))
+  pub holds-on : v ≡ Passed → Holds h d w (entries rs (i + 1))
   holds-on e =
       let f = clear e in
       rw (leaves (programWith g r (entryOf r)) g e (entered .program), leaves (cellsWith c (entryOf r)) c e (entered .cells), leaves (notedIn s (entryOf r)) s e (entered .given), ← grown)
-      (next-holds g c s (entries table i) holds r (f .0) (f .1))
+      (next-holds g c s (entries rs i) holds r (f .0) (f .1))
 
-  pub goes-on : v ≡ Passed → onward table n (i + 1) ≡ reading table
+  pub goes-on : v ≡ Passed → onward rs (i + 1) ≡ all rs
   goes-on e =
-      let j : readRecord i (entries table i) r ≡ passed with-r = judged ∙ ap (λ (u : Verdict). testedOf u with-r) e in
+      let j : readRecord i (entries rs i) r ≡ passed with-r = judged ∙ ap (λ (u : Verdict). testedOf u with-r) e in
       rw (← grown, add-one)
-      (sym (in-order-more readRecord i (entries table i) with-r r (recordsFrom table (suc i) (n - suc i)) j) ∙ ap (inOrder readRecord i (entries table i)) (sym more) ∙ rest)
+      (sym (in-order-more readRecord i (entries rs i) with-r r (drop (suc i) rs) j) ∙ ap (inOrder readRecord i (entries rs i)) (sym more) ∙ rest)

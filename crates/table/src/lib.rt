@@ -1,3 +1,3 @@
 // Reading a table (document 01, numbers 1 to 7).
 pub mod in_place;
-pub mod read;
+mod read;

@@ -28,7 +28,7 @@ abbrev Inv-loop : tie.InvT-loop
 Inv-loop text at seen₀ letters₀ records₀ count₀ place₀ at₀ seen letters records count place at' =
     ((rs : List Record) → Keeps records₀ count₀ rs
     → (all : List Record) × Keeps records count all × (answer text at (beginning (contextOf place₀)) (seenIn seen₀ letters₀) rs ≡ answer text at' (beginning (contextOf place)) (seenIn seen letters) all))
-    × (left (contextOf place) ≡ left (contextOf place₀)) × Sound place × (letters ≤ 8) × (count ≤ at') × (at ≤ at') × (at' ≤ length text) × (length records ≡ 712)
+    × (left (contextOf place) ≡ left (contextOf place₀)) × Sound place × (letters ≤ 8) × (count ≤ at') × (at ≤ at') × (at' ≤ length text) × (length records ≡ 89)
 
 abbrev μ-loop : tie.MeasureT-loop
 μ-loop text at seen₀ letters₀ records₀ count₀ place₀ at₀ seen letters records count place at' = length text - at'

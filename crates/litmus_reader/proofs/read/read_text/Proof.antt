@@ -1,8 +1,5 @@
 -- `litmus_reader::read::read_text` meets its contract. Assumes nothing.
-use mathlib.Core.Path.{_≡_, ap, _∙_}
-use Prim.Native.Nat.{ℕ}
-use lib.ListN.{length, length-replicate}
-use Rattle.litmus_reader.proofs.Texts.{keeps-start, ahead-on, headed-on, text-refused, head-refused, head-on, cells-refused, cells-on, headings-refused, rows-refused, text-read}
+use Rattle.litmus_reader.proofs.Texts.{ahead-on, headed-on, text-refused, head-refused, head-on, cells-refused, cells-on, headings-refused, rows-refused, text-read}
 use native.Mathlib.Omega.{arith}
 use borrow.Author.Needs.{needs}
 use Rattle.litmus_reader.proofs.read.read_text.Statement.{statement}
@@ -12,9 +9,6 @@ use Rattle.litmus_reader.proofs.read.read_text.Lts as lts
 use Rattle.litmus_reader.proofs.forms.read_forms.Reads as read-forms-reads
 use Rattle.litmus_reader.proofs.head.read_head.Reads as read-head-reads
 use Rattle.litmus_reader.proofs.headings.read_headings.Reads as read-headings-reads
-
-zeros-long : (c : tie.Start) → length (c .args .records .now) ≡ 712
-zeros-long c = ap length (c .pre) ∙ length-replicate {A = ℕ} 712 0
 
 -- src/read.rt:22:23
 read-head-requires : tie.Need-read-head-requires
@@ -40,7 +34,7 @@ read-forms-requires c κs =
     let c7 = c5 .before .before in
     let c10 = c7 .before .before .before in
     let a = ahead-on 0 (c10 .args .text .now) (c7 .read-head .result) _ (c7 .read-head .ensures .1) (c5 .at .given .1) in
-    ((a .1, tt, omega arith, omega arith), zeros-long (c10))
+    ((a .1, tt, omega arith, omega arith), c10 .pre)
 
 -- src/read.rt:35:26
 enum-known-why-2 : tie.Need-enum-known-why-2
@@ -54,7 +48,7 @@ same-length c = search needs
 returns-2 : tie.Need-returns-2
 returns-2 c =
     let h = head-on _ _ (c .before .before .before .before .before .before .before .before .before .before .before .before .before .read-head .ensures .0) _ (c .before .before .before .before .before .before .before .before .before .before .before .at .given .1) in
-    text-refused _ _ (cells-refused h (c .before .before .before .before .before .read-forms .ensures .0) (keeps-start _ (c .before .before .before .before .before .before .before .before .before .before .before .before .before .before .before .before .pre)) _ _ (c .before .why2 .given .1))
+    text-refused _ _ (cells-refused h (c .before .before .before .before .before .read-forms .ensures .0) _ _ (c .before .why2 .given .1))
 
 -- src/read.rt:36:21
 enum-known-at-2 : tie.Need-enum-known-at-2
@@ -109,9 +103,8 @@ returns-3 c =
     let c9 = c5 .before .before .before .before in
     let c15 = c9 .before .before .before .before .before .before in
     let c17 = c15 .before .before in
-    let c20 = c17 .before .before .before in
     let h = head-on _ _ (c17 .read-head .ensures .0) _ (c15 .at .given .1) in
-    let t = cells-on h (c9 .read-forms .ensures .0) (keeps-start _ (c20 .pre)) _ (c5 .at2 .given .1) in
+    let t = cells-on h (c9 .read-forms .ensures .0) _ (c5 .at2 .given .1) in
     text-refused _ _ (headings-refused t (c3 .read-headings .ensures) _ _ (c .before .why3 .given .1))
 
 -- src/read.rt:15:1
@@ -128,9 +121,8 @@ returns-4 c =
     let c19 = c15 .before .before .before .before in
     let c25 = c19 .before .before .before .before .before .before in
     let c27 = c25 .before .before in
-    let c30 = c27 .before .before .before in
     let h = head-on _ _ (c27 .read-head .ensures .0) _ (c25 .at .given .1) in
-    let t = cells-on h (c19 .read-forms .ensures .0) (keeps-start _ (c30 .pre)) _ (c15 .at2 .given .1) in
+    let t = cells-on h (c19 .read-forms .ensures .0) _ (c15 .at2 .given .1) in
     text-refused _ _ (rows-refused t (c13 .read-headings .ensures) (c11 .n .given .1) (c5 .read-forms2 .ensures .0) _ _ (c .before .why4 .given .1))
 
 -- src/read.rt:15:1
@@ -147,9 +139,8 @@ returns-5 c =
     let c18 = c14 .before .before .before .before in
     let c24 = c18 .before .before .before .before .before .before in
     let c26 = c24 .before .before in
-    let c29 = c26 .before .before .before in
     let h = head-on _ _ (c26 .read-head .ensures .0) _ (c24 .at .given .1) in
-    let t = cells-on h (c18 .read-forms .ensures .0) (keeps-start _ (c29 .pre)) _ (c14 .at2 .given .1) in
+    let t = cells-on h (c18 .read-forms .ensures .0) _ (c14 .at2 .given .1) in
     text-read t (c12 .read-headings .ensures) (c10 .n .given .1) (c4 .read-forms2 .ensures .0) _ (c .enum-told .given .1)
 
 pub read-text-spec : {M : Type 1} → statement M
