@@ -43,17 +43,38 @@ static bool in_name(uint8_t b)
     return !is_blank(b) && b != '{';
 }
 
-/* Where a run of such bytes ends. */
-static inline const uint8_t *run_end(bool (*such)(uint8_t), const uint8_t *at, const uint8_t *end)
+/* Where a run of such bytes ends: four loops, since one over a function that tells such bytes makes the reader half as fast. */
+static const uint8_t *blanks_end(const uint8_t *at, const uint8_t *end)
 {
-    while (at < end && such(*at))
+    while (at < end && is_blank(*at))
+        at++;
+    return at;
+}
+
+static const uint8_t *digits_end(const uint8_t *at, const uint8_t *end)
+{
+    while (at < end && is_digit(*at))
+        at++;
+    return at;
+}
+
+static const uint8_t *word_end(const uint8_t *at, const uint8_t *end)
+{
+    while (at < end && in_word(*at))
+        at++;
+    return at;
+}
+
+static const uint8_t *name_end(const uint8_t *at, const uint8_t *end)
+{
+    while (at < end && in_name(*at))
         at++;
     return at;
 }
 
 static bool is_number(struct bytes t)
 {
-    return t.from < t.to && run_end(is_digit, t.from, t.to) == t.to;
+    return t.from < t.to && digits_end(t.from, t.to) == t.to;
 }
 
 static bool is_constant(struct bytes t)
@@ -70,7 +91,7 @@ static bool is_dollar(struct bytes t)
 
 static bool is_name(struct bytes t)
 {
-    return t.from < t.to && run_end(in_name, t.from, t.to) == t.to;
+    return t.from < t.to && name_end(t.from, t.to) == t.to;
 }
 
 static inline bool is_word(const char *word, struct bytes t)
@@ -96,7 +117,7 @@ static bool is_location(struct bytes t)
 /* Where the number ends that begins here, as a whole run of letters and digits; here: there is none. */
 static const uint8_t *number_end(const uint8_t *at, const uint8_t *end)
 {
-    const uint8_t *to = run_end(in_word, at, end);
+    const uint8_t *to = word_end(at, end);
     return is_number((struct bytes){at, to}) ? to : at;
 }
 
@@ -113,13 +134,13 @@ static const uint8_t *token_end(const uint8_t *at, const uint8_t *end)
 {
     uint8_t first = *at++;
     if (in_word(first))
-        return run_end(in_word, at, end);
+        return word_end(at, end);
     if (first == '$')
         return signed_end(at, end);
     if (first == '-')
         return number_end(at, end);
     if (first == '~') {
-        const uint8_t *to = run_end(in_word, at, end);
+        const uint8_t *to = word_end(at, end);
         if (is_word("exists", (struct bytes){at, to}))
             return to;
     }
@@ -128,14 +149,14 @@ static const uint8_t *token_end(const uint8_t *at, const uint8_t *end)
 
 static struct bytes next_token(const uint8_t *at, const uint8_t *end)
 {
-    const uint8_t *from = run_end(is_blank, at, end);
+    const uint8_t *from = blanks_end(at, end);
     return (struct bytes){from, from == end ? end : token_end(from, end)};
 }
 
 /* The same for the name; where there is none, it is the brace. */
 static struct bytes next_name(const uint8_t *at, const uint8_t *end)
 {
-    const uint8_t *from = run_end(is_blank, at, end), *to = run_end(in_name, from, end);
+    const uint8_t *from = blanks_end(at, end), *to = name_end(from, end);
     return (struct bytes){from, from < end && to == from ? from + 1 : to};
 }
 
