@@ -21,7 +21,7 @@ use Rattle.litmus_model.specs.Imports.{Imports, textRefused, tableRefused, tooS
 use Rattle.litmus_model.specs.Call.{imported}
 use Rattle.litmus_model.proofs.Imports.{imports-exactly}
 use Rattle.litmus_model.proofs.Replies.{text-number}
-use Rattle.program_read.specs.Standing.{InText}
+use Rattle.program_read.specs.Places.{InText}
 
 -- ---- a token lies in the text
 

@@ -1,8 +1,6 @@
 // The read program: a litmus text from standard input becomes table.rec of the current folder, or is told where it goes wrong.
 mod refusal;
-mod samples;
 mod show;
-mod standing;
 
 fn main() {
     show::show();

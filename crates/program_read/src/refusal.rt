@@ -1,11 +1,11 @@
 // What is said of a text that is refused.
 ghost use Prim.Native.Nat.{_+_, _≤_};
 ghost use lib.ListN.{length};
-ghost use Rattle.program_read.specs.Standing.{InText};
-use crate::standing::LIST;
-use crate::standing::TRIED;
-use crate::standing::put_standing;
-use crate::standing::standing_at;
+ghost use Rattle.program_read.specs.Places.{InText};
+use litmus_standing::standing::LIST;
+use litmus_standing::standing::TRIED;
+use litmus_standing::standing::put_standing;
+use litmus_standing::standing::standing_at;
 use model::answer::Refusal;
 use model::number::number;
 use text::lines::put_refused;

@@ -3,7 +3,7 @@ use mathlib.Core.Path.{subst}
 use native.Mathlib.Omega.{arith}
 use borrow.Author.Needs.{needs}
 use Rattle.model.specs.declared.answer.Refusal.{Refusal}
-use Rattle.program_read.specs.Standing.{InText}
+use Rattle.program_read.specs.Places.{InText}
 use Rattle.program_read.proofs.refusal.put_refusal.Statement.{statement}
 use Rattle.program_read.proofs.refusal.put_refusal.Tie as tie
 

@@ -2,9 +2,9 @@ use mathlib.Core.Path.{sym, _∙_}
 use borrow.Author.Needs.{needs}
 use lib.Seq.{length-take-le}
 use Rattle.text.proofs.Adding.{then}
-use Rattle.program_read.proofs.Tried.{kept, can-stand-by}
-use Rattle.program_read.proofs.standing.can_stand.Statement.{statement}
-use Rattle.program_read.proofs.standing.can_stand.Tie as tie
+use Rattle.litmus_standing.proofs.Tried.{kept, can-stand-by}
+use Rattle.litmus_standing.proofs.standing.can_stand.Statement.{statement}
+use Rattle.litmus_standing.proofs.standing.can_stand.Tie as tie
 
 slice-aggregate-litmus : tie.Need-slice-aggregate-litmus
 slice-aggregate-litmus c = sym (length-take-le _ _ (search needs))

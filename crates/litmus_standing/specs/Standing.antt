@@ -1,12 +1,10 @@
--- What can stand at a place of a litmus text, by the reply to a text that goes on so; and where the refusals of a text are.
+-- What can stand at a place of a litmus text, by the reply to a text that goes on so.
 use mathlib.Core.Bool.{Bool, not, _||_}
 use mathlib.Core.List.{List, [], _∷_, _++_}
-use Prim.Native.Nat.{ℕ, _≤_}
+use Prim.Native.Nat.{ℕ}
 use lib.Dec.{eqb}
 use lib.ListN.{length}
-use Rattle.model.specs.declared.answer.Answer.{Answer}
-use Rattle.model.specs.declared.answer.Refusal.{Refusal}
-use Rattle.model.specs.Reply.{Reply, numberOf, replyOf}
+use Rattle.model.specs.Reply.{Reply}
 use Rattle.litmus_model.specs.Call.{imported}
 
 -- the text is outside the grammar at no place before its end
@@ -16,7 +14,3 @@ goesOn q size = not (eqb (q .number) 19) || eqb (q .place) size
 -- behind `before` and a blank
 unfoldable pub canStand : List ℕ → List ℕ → Bool
 canStand before sample = goesOn (imported (before ++ (32 ∷ sample)) []) (length (before ++ (32 ∷ sample)))
-
--- the place of 19, 20 and 21 lies in a text of n bytes, or at its end
-abbrev pub InText : Refusal → ℕ → ℕ → Type 0
-InText why place n = 19 ≤ numberOf why → place ≤ n

@@ -5,9 +5,9 @@ use borrow.Author.Needs.{needs}
 use lib.Dec.{eqb}
 use Rattle.model.specs.declared.answer.Answer.{Answer}
 use Rattle.model.specs.Reply.{replyOf}
-use Rattle.program_read.specs.Standing.{goesOn}
-use Rattle.program_read.proofs.standing.goes_on.Statement.{statement}
-use Rattle.program_read.proofs.standing.goes_on.Tie as tie
+use Rattle.litmus_standing.specs.Standing.{goesOn}
+use Rattle.litmus_standing.proofs.standing.goes_on.Statement.{statement}
+use Rattle.litmus_standing.proofs.standing.goes_on.Tie as tie
 
 returns : tie.Need-returns
 returns c = ap (λ (a : Answer). goesOn (replyOf a []) (c .before .before .args .size)) (sym (c .enum-told .given .1))

@@ -2,8 +2,8 @@ use mathlib.Core.Path.{sym}
 use native.Mathlib.Omega.{arith}
 use borrow.Author.Needs.{needs}
 use lib.Seq.{length-take-le}
-use Rattle.program_read.proofs.standing.row_can_stand.Statement.{statement}
-use Rattle.program_read.proofs.standing.row_can_stand.Tie as tie
+use Rattle.litmus_standing.proofs.standing.row_can_stand.Statement.{statement}
+use Rattle.litmus_standing.proofs.standing.row_can_stand.Tie as tie
 
 slice-aggregate-can-stand : tie.Need-slice-aggregate-can-stand
 slice-aggregate-can-stand c = sym (length-take-le 8 (c .before .before .before .args .t3) (search needs))

@@ -10,7 +10,7 @@ use Rattle.model.specs.declared.answer.Answer.the-variants.{Done, Refused}
 use Rattle.model.specs.Reply.{Reply, replyOf}
 use Rattle.litmus_model.specs.Call.{imported}
 use Rattle.text.specs.Text.{Adds}
-use Rattle.program_read.specs.Standing.{goesOn, canStand}
+use Rattle.litmus_standing.specs.Standing.{goesOn, canStand}
 
 module _ {l m x : List ℕ} {at to : ℕ} (p : Adds l at x m to) where
   front-long : length (take at l) ≡ at

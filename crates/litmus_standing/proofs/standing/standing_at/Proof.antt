@@ -3,8 +3,8 @@ use mathlib.Core.Path.{_≡_}
 use Prim.Native.Nat.{_-_, _≤_}
 use borrow.Author.Needs.{needs}
 use lib.ListN.{length, length-set}
-use Rattle.program_read.proofs.standing.standing_at.Statement.{statement}
-use Rattle.program_read.proofs.standing.standing_at.Tie as tie
+use Rattle.litmus_standing.proofs.standing.standing_at.Statement.{statement}
+use Rattle.litmus_standing.proofs.standing.standing_at.Tie as tie
 
 abbrev Inv-loop : tie.InvT-loop
 Inv-loop text₀ place end which₀ many₀ k₀ text which many k =

@@ -1,7 +1,7 @@
 use Prim.Native.Nat.{_≤_}
 use borrow.Author.Needs.{needs}
-use Rattle.program_read.proofs.samples.trimmed.Statement.{statement}
-use Rattle.program_read.proofs.samples.trimmed.Tie as tie
+use Rattle.litmus_standing.proofs.samples.trimmed.Statement.{statement}
+use Rattle.litmus_standing.proofs.samples.trimmed.Tie as tie
 
 abbrev Inv-loop : tie.InvT-loop
 Inv-loop row n₀ n = (8 ≤ n) × (n ≤ 48)

@@ -4,7 +4,7 @@ ghost use mathlib.Core.List.{[]};
 ghost use Prim.Native.Nat.{_+_, _≤_, _<_};
 ghost use lib.ListN.{length, take};
 ghost use Rattle.model.specs.Reply.{replyOf};
-ghost use Rattle.program_read.specs.Standing.{goesOn, canStand};
+ghost use Rattle.litmus_standing.specs.Standing.{goesOn, canStand};
 use crate::samples::ROW;
 use crate::samples::ROWS;
 use crate::samples::SAMPLE;
