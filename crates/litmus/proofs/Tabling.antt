@@ -3,7 +3,7 @@ use mathlib.Core.Path.{_≡_, refl, sym, ap, _∙_}
 use mathlib.Core.Bool.{Bool, true, false}
 use mathlib.Core.Logic.{⊎-elim}
 use mathlib.Core.List.{List, [], _∷_, _++_, append-assoc}
-use Prim.Native.Nat.{ℕ, zero, suc, _*_, _/_, _≤_, _<_, min}
+use Prim.Native.Nat.{ℕ, zero, suc, _*_, _≤_, _<_, min}
 use native.Mathlib.Omega.{arith}
 use lib.ListN.{length, take, drop, length-take, take-append-drop, length-map}
 use lib.Seq.{take-all, length-take-le}
@@ -24,7 +24,7 @@ use Rattle.model.specs.Reading.{readRecord, reading}
 use Rattle.model.specs.Reply.{Reply, done, refuse, numberOf}
 use Rattle.model.specs.Calls.{replied}
 use Rattle.model.specs.Code.{testedOf}
-use Rattle.model.proofs.Bytes.{Small, length-records, records-file}
+use Rattle.model.proofs.Bytes.{Small, records-file}
 use Rattle.model.proofs.InOrder.{in-order-refused, in-order-at, file-whole}
 use Rattle.model.proofs.Readable.{readable-sound}
 use Rattle.model.proofs.Reading.{readable-exactly}

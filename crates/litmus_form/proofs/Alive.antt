@@ -1,18 +1,17 @@
 -- A form that is alive, and its pattern that comes next.
 use mathlib.Core.Path.{_≡_, refl, ap, sym, _∙_, subst}
 use mathlib.Core.Bool.{Bool, true, false, cond, _&&_}
-use mathlib.Core.Logic.{inl, inr}
+use mathlib.Core.Logic.{inl}
 use mathlib.Core.List.{List, [], _∷_, _++_, map}
-use Prim.Native.Nat.{ℕ, zero, suc, _+_, _-_, _≤_, _<_}
+use Prim.Native.Nat.{ℕ, zero, suc, _-_, _≤_, _<_}
 use native.Mathlib.Omega.{arith}
 use lib.ListN.{length, getD, drop, replicate, length-drop}
-use lib.Seq.{drop-cons}
 use Rattle.model.specs.Lists.{All, In}
 use Rattle.litmus_model.specs.Bytes.{Token, same}
 use Rattle.litmus_model.specs.Forms.{Pattern, exactly, fits, Form, form}
 use Rattle.litmus_model.specs.Reader.{advance}
 use Rattle.litmus_model.proofs.Bools.{false-true, and-left, and-right}
-use Rattle.litmus_model.proofs.Forms.{in-left, in-right}
+use Rattle.litmus_model.proofs.Forms.{in-right}
 use Rattle.litmus_form.specs.Flags.{patternAt, formCodes, codeAt, aliveOn, Advanced, allForms, alives, First}
 use Rattle.litmus_form.proofs.Alives.{padded, row-of, none, twelve, pattern-at, alive-forms}
 

@@ -1,12 +1,12 @@
 -- What the code's array of flags stands for: the forms that can still be meant.
-use mathlib.Core.Path.{_≡_, refl, ap, sym, _∙_, subst}
+use mathlib.Core.Path.{_≡_, refl, ap, sym, _∙_}
 use mathlib.Core.Bool.{Bool, true, false, cond, _&&_}
 use mathlib.Core.List.{List, [], _∷_, _++_, map}
-use Prim.Native.Nat.{ℕ, zero, suc, _+_, _-_, _≤_, _<_}
+use Prim.Native.Nat.{ℕ, zero, suc, _-_, _<_}
 use native.Mathlib.Omega.{arith}
 use lib.ListN.{length, getD, drop, replicate}
 use Rattle.litmus_model.specs.Bytes.{Token, same}
-use Rattle.litmus_model.specs.Forms.{Pattern, exactly, fits, Form, form, semicolon, bar, cellForms, rowForms}
+use Rattle.litmus_model.specs.Forms.{Pattern, exactly, fits, Form, form, cellForms, rowForms}
 use Rattle.litmus_model.specs.Reader.{onward, advance}
 use Rattle.litmus_form.specs.Flags.{patternAt, marked, formCodes, codeAt, aliveOn, Advanced, allForms, alives}
 

@@ -1,14 +1,14 @@
 -- What the code's places stand for.
 use mathlib.Core.Path.{_≡_, refl, ap, sym, _∙_, subst}
 use mathlib.Core.Bool.{Bool, true, false, cond, _&&_}
-use mathlib.Core.List.{List, [], _∷_, map}
+use mathlib.Core.List.{[], _∷_, map}
 use Prim.Native.Nat.{ℕ, zero, suc, _+_, _≤_, _<_}
 use native.Mathlib.Omega.{arith}
 use lib.Dec.{eqb}
 use borrow.Author.Tests.{eq-eqb, ne-eqb, eqb-false}
 use Rattle.litmus_model.specs.Bytes.{Token, same}
 use Rattle.litmus_model.specs.Forms.{semicolon, bar, rowForms, markOf, isEnd}
-use Rattle.litmus_model.specs.Reader.{Context, braces, row, formsIn, next, leaves}
+use Rattle.litmus_model.specs.Reader.{row, formsIn, next, leaves}
 use Rattle.litmus_form.specs.declared.place.Place.{Place}
 use Rattle.litmus_form.specs.declared.place.Place.the-variants.{Braces, Row}
 use Rattle.litmus_form.specs.Flags.{formCodes, allForms, alives}

@@ -6,7 +6,6 @@ use mathlib.Core.Logic.{_↔_}
 use mathlib.Core.List.{List, [], _∷_, _++_, append-assoc, append-nil}
 use Prim.Native.Nat.{ℕ}
 use native.Mathlib.Omega.{arith}
-use Rattle.litmus_model.specs.Bytes.{Token}
 use Rattle.litmus_model.specs.Tokens.{Placed}
 use Rattle.litmus_model.specs.Forms.{Mention, Entry}
 use Rattle.litmus_model.specs.Grammar.{Said, said, Text}
@@ -21,7 +20,7 @@ use Rattle.litmus_model.proofs.Splitting.{tokens-exactly}
 use Rattle.litmus_model.proofs.Runs.{Runs, done, more, runs-append, single, text-runs}
 use Rattle.litmus_model.proofs.Reached.{runs-text}
 use Rattle.litmus_model.proofs.Faults.{fault-wrong, wrong-fault, faultless-none, none-faultless, seen-append, faultless-append}
-use Rattle.litmus_model.proofs.Determined.{runs-split, begins-starts, starts-begins, runs-one, Next, runs-next}
+use Rattle.litmus_model.proofs.Determined.{runs-split, begins-starts, starts-begins, runs-one, runs-next}
 
 -- ---- the end
 

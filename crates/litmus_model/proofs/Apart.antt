@@ -1,15 +1,15 @@
 -- Forms that no text can be mistaken for: where two of them part, no token fits both; until then their tokens say the same.
-use mathlib.Core.Path.{_≡_, refl, ap, sym, _∙_, subst}
+use mathlib.Core.Path.{_≡_, refl, ap, sym, _∙_}
 use mathlib.Core.Bool.{Bool, true, false, cond, not, _&&_, _||_}
 use mathlib.Core.Logic.{_⊎_, inl, inr}
-use mathlib.Core.List.{List, [], _∷_, _++_}
-use Prim.Native.Nat.{ℕ, suc, _≤_, _<_}
+use mathlib.Core.List.{List, [], _∷_}
+use Prim.Native.Nat.{ℕ, _≤_}
 use native.Mathlib.Omega.{arith}
 use lib.ListN.{getD}
 use lib.Dec.{eqb, leb, ltb}
 use borrow.Author.Tests.{eqb-true, leb-true, ltb-true, not-true}
 use Rattle.litmus_model.specs.Bytes.{Token, same, all, isLocation, isRegister, isNumber, isConstant, isDollar, isDigit}
-use Rattle.litmus_model.specs.Forms.{Pattern, exactly, location, register, processor, constant, dollar, fits, Mention, mention, Form}
+use Rattle.litmus_model.specs.Forms.{Pattern, exactly, location, register, processor, constant, dollar, fits, mention, Form}
 use Rattle.litmus_model.proofs.Bools.{false-true, and-left, and-right, or-cases, same-true}
 
 -- ---- first bytes

@@ -1,15 +1,12 @@
 -- The tokens determine the run.
 use mathlib.Core.Path.{_≡_, refl, ap, sym, _∙_, subst}
-use mathlib.Core.Bool.{Bool, true, false, cond}
-use mathlib.Core.List.{List, [], _∷_, _++_, append-assoc, append-nil}
-use Prim.Native.Nat.{ℕ}
-use native.Mathlib.Omega.{arith}
+use mathlib.Core.List.{List, [], _∷_, _++_}
 use Rattle.litmus_model.specs.Bytes.{Token}
 use Rattle.litmus_model.specs.Tokens.{Placed}
 use Rattle.litmus_model.specs.Forms.{Mention, Entry}
-use Rattle.litmus_model.specs.Grammar.{Said, said, Text}
+use Rattle.litmus_model.specs.Grammar.{Said, said}
 use Rattle.litmus_model.specs.Answers.{Spells, Begins}
-use Rattle.litmus_model.specs.Reader.{Control, atStart, atEnd, went, step}
+use Rattle.litmus_model.specs.Reader.{Control, atStart, went, step}
 use Rattle.litmus_model.proofs.Runs.{Runs, done, more, runs-append, text-runs}
 use Rattle.litmus_model.proofs.Reached.{start, runs-reached, runs-text}
 use Rattle.litmus_model.proofs.Viable.{reached-ends}

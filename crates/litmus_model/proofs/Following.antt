@@ -1,8 +1,8 @@
 -- Reading with the letters seen and the records given so far: a location keeps its number.
 use mathlib.Core.Path.{_≡_, refl, ap, sym, _∙_, subst}
-use mathlib.Core.Bool.{Bool, true, false, cond, _||_}
+use mathlib.Core.Bool.{Bool, true, false, cond}
 use mathlib.Core.Option.{Option, none, some}
-use mathlib.Core.Logic.{_⊎_, inl, inr}
+use mathlib.Core.Logic.{inl, inr}
 use mathlib.Core.List.{List, [], _∷_, _++_, map, map-append}
 use Prim.Native.Nat.{ℕ, zero, suc}
 use native.Mathlib.Omega.{arith}
@@ -11,17 +11,16 @@ use borrow.Author.Tests.{eq-eqb}
 use Rattle.model.specs.declared.record.Record.{Record}
 use Rattle.litmus_model.specs.Bytes.{Token, same, isName}
 use Rattle.litmus_model.specs.Tokens.{Placed}
-use Rattle.litmus_model.specs.Forms.{X86, opening, semicolon, bar, Mention, nothing, aProcessor, aRegister, aLocation, aConstant, Form, Draft, blank, noted, Entry, entries, heading}
+use Rattle.litmus_model.specs.Forms.{X86, opening, semicolon, bar, Mention, nothing, aProcessor, aRegister, aLocation, aConstant, Form, Draft, noted, Entry, entries, heading}
 use Rattle.model.specs.Lists.{In}
 use Rattle.litmus_model.specs.Grammar.{Said, said}
-use Rattle.model.specs.Tests.{Tested, passed, refused, unless}
+use Rattle.model.specs.Tests.{passed, refused, unless}
 use Rattle.litmus_model.specs.Answers.{among, letters, seenOn, seenAll, numberIn, numbered, recordOf, recordsOf}
 use Rattle.litmus_model.specs.Reader.{Progress, halted, going, closed, progress, Context, braces, row, formsIn, draftIn}
 use Rattle.litmus_model.specs.Reader.{Control, atStart, atName, atOpening, atEnd, beginning, within, atHeading, behindHeading, Stepped, stuck, went, leaves, left, onWith, step, fault, isAtEnd, readFrom, readTokens, carried}
-use Rattle.litmus_model.proofs.Bools.{false-true}
 use Rattle.litmus_model.proofs.Forms.{in-left, in-right}
 use Rattle.litmus_model.proofs.Progress.{went-on, closed-by}
-use Rattle.litmus_model.proofs.Faults.{among-in, in-among}
+use Rattle.litmus_model.proofs.Faults.{among-in}
 use Rattle.litmus_model.proofs.Answers.{read-end, read-stuck, read-went, letters-on}
 
 -- ---- letters that were seen

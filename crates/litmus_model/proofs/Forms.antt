@@ -1,16 +1,15 @@
 -- What is left of the forms, token by token.
 use mathlib.Core.Path.{_≡_, refl, ap, sym, _∙_, subst}
-use mathlib.Core.Bool.{Bool, true, false, cond, _&&_}
+use mathlib.Core.Bool.{Bool, true, false, cond}
 use mathlib.Core.Option.{Option, none, some}
 use mathlib.Core.Logic.{_⊎_, inl, inr}
 use mathlib.Core.List.{List, [], _∷_, _++_}
-use Prim.Native.Nat.{ℕ, zero, suc}
+use Prim.Native.Nat.{ℕ}
 use native.Mathlib.Omega.{arith}
-use lib.Dec.{eqb}
 use Rattle.litmus_model.specs.Bytes.{Token}
-use Rattle.litmus_model.specs.Forms.{Pattern, fits, Mention, mention, Form, form, Draft, noted, entries, cellForms, rowForms, markOf, semicolon, bar}
+use Rattle.litmus_model.specs.Forms.{Pattern, fits, Mention, mention, Form, form}
 use Rattle.model.specs.Lists.{In}
-use Rattle.litmus_model.specs.Reader.{onward, advance, saying, mentionIn, ending, complete, Progress, halted, going, closed, finishing, judged, progress, Context, braces, row, formsIn}
+use Rattle.litmus_model.specs.Reader.{onward, advance, saying, mentionIn, ending, complete}
 use Rattle.litmus_model.proofs.Bools.{false-true, and-left, and-right}
 use Rattle.litmus_model.proofs.Apart.{apart, apart-on, apart-nil, allApart, separate}
 

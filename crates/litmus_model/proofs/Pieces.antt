@@ -3,14 +3,14 @@ use mathlib.Core.Path.{_≡_, refl, ap, sym, _∙_, subst}
 use mathlib.Core.Bool.{Bool, true, false, cond, not, _&&_, _||_}
 use mathlib.Core.Logic.{_⊎_, inl, inr}
 use mathlib.Core.List.{List, [], _∷_, _++_}
-use Prim.Native.Nat.{ℕ, zero, suc, _+_, _≤_, _<_}
+use Prim.Native.Nat.{ℕ, zero, suc, _≤_}
 use native.Mathlib.Omega.{arith}
 use lib.ListN.{length, take, drop, take-append-drop}
-use lib.Seq.{take-append-seam, drop-append-seam, length-take-le}
-use lib.Dec.{eqb, leb}
-use borrow.Author.Tests.{eqb-true, eqb-false, eq-eqb, leb-true, not-true}
-use Rattle.litmus_model.specs.Bytes.{Token, isBlank, isDigit, isLarge, isSmall, inWord, inName, all, some, same, isNumber, isConstant, isDollar, isName}
-use Rattle.litmus_model.specs.Forms.{exists, notExists}
+use lib.Seq.{take-append-seam, length-take-le}
+use lib.Dec.{eqb}
+use borrow.Author.Tests.{eqb-true, not-true}
+use Rattle.litmus_model.specs.Bytes.{Token, isBlank, isDigit, inWord, inName, all, some, same, isNumber, isConstant, isDollar, isName}
+use Rattle.litmus_model.specs.Forms.{exists}
 use Rattle.litmus_model.specs.Tokens.{Stops, Whole, word, dollar, minus, tilde, Piece, whole, mark, NamePiece, name, brace, PieceAt}
 use Rattle.litmus_model.specs.Splitting.{run, numberLength, oneMore, signedLength, behind, behindIn}
 use Rattle.litmus_model.proofs.Bools.{false-true, and-true, and-left, and-right, or-cases, same-true, same-refl}

@@ -2,15 +2,15 @@
 use mathlib.Core.Path.{_≡_, refl, ap, sym, _∙_, subst}
 use mathlib.Core.Bool.{Bool, true, false, cond}
 use mathlib.Core.Option.{Option, none, some}
-use mathlib.Core.Logic.{_⊎_, inl, inr}
-use mathlib.Core.List.{List, [], _∷_, _++_}
-use Prim.Native.Nat.{ℕ, zero, suc}
+use mathlib.Core.Logic.{inl}
+use mathlib.Core.List.{List, [], _∷_}
+use Prim.Native.Nat.{ℕ, suc}
 use native.Mathlib.Omega.{arith}
 use lib.Dec.{eqb}
 use Rattle.litmus_model.specs.Bytes.{Token}
 use Rattle.litmus_model.specs.Forms.{Pattern, fits, Mention, mention, Form, form, Draft, noted, Entry, entries, cellForms, rowForms, markOf, semicolon, bar}
 use Rattle.model.specs.Lists.{In}
-use Rattle.litmus_model.specs.Reader.{advance, mentionIn, complete, Progress, halted, going, closed, finishing, judged, progress, Context, braces, row, formsIn}
+use Rattle.litmus_model.specs.Reader.{advance, mentionIn, complete, going, closed, finishing, judged, progress, Context, braces, row, formsIn}
 use Rattle.litmus_model.proofs.Apart.{separate}
 use Rattle.litmus_model.proofs.Forms.{Separate, separate-true, separate-on, advance-in, mention-in, complete-some, complete-none}
 

@@ -1,20 +1,19 @@
 -- Wherever the automaton comes to, what it read is the beginning of a text of the grammar; at its end it is one.
 use mathlib.Core.Path.{_≡_, refl, ap, sym, _∙_, subst}
-use mathlib.Core.Bool.{Bool, true, false, cond, _||_}
-use mathlib.Core.Option.{Option, none, some}
-use mathlib.Core.Logic.{_⊎_, inl, inr}
+use mathlib.Core.Bool.{Bool, true, false, cond}
+use mathlib.Core.Option.{none}
 use mathlib.Core.List.{List, [], _∷_, _++_, append-assoc, append-nil}
-use Prim.Native.Nat.{ℕ, zero, suc, _<_, _≤_}
+use Prim.Native.Nat.{ℕ, zero, suc, _<_}
 use native.Mathlib.Omega.{arith}
 use lib.Dec.{eqb}
 use borrow.Author.Tests.{eqb-true, eqb-false}
 use Rattle.litmus_model.specs.Bytes.{Token, same, isName}
-use Rattle.litmus_model.specs.Forms.{X86, opening, closing, semicolon, bar, Pattern, fits, Mention, nothing, aProcessor, mention, Form, form, cellForms, rowForms, markOf, Draft, blank, noted, Entry, entries, heading, isEnd}
+use Rattle.litmus_model.specs.Forms.{X86, opening, closing, semicolon, bar, Pattern, fits, Mention, nothing, aProcessor, mention, Form, form, rowForms, markOf, Draft, blank, noted, Entry, entries, heading, isEnd}
 use Rattle.model.specs.Lists.{In}
 use Rattle.litmus_model.specs.Grammar.{Said, said, plain, Fits, notedAll, Phrase, phrase, Header, header, Cells, Headings, Row, Rows, ignored, Text, text}
 use Rattle.litmus_model.specs.Reader.{advance, mentionIn, complete, Progress, halted, going, closed, progress, Context, braces, row, formsIn, draftIn, next}
 use Rattle.litmus_model.specs.Reader.{Control, atStart, atName, atOpening, atEnd, beginning, within, atHeading, behindHeading, Stepped, stuck, went, leaves, left, onWith, step}
-use Rattle.litmus_model.proofs.Bools.{false-true, or-cases, same-true, same-refl}
+use Rattle.litmus_model.proofs.Bools.{false-true, same-true}
 use Rattle.litmus_model.proofs.Forms.{Separate, advance-out, separate-on, complete-in, mention-in}
 use Rattle.litmus_model.proofs.Progress.{Went, went-on, Closed, closed-by, forms-separate}
 use Rattle.litmus_model.proofs.Runs.{Runs}

@@ -1,7 +1,7 @@
 -- The automaton from token to token; every text of the grammar leads it to its end.
 use mathlib.Core.Path.{_≡_, refl, ap, sym, _∙_, subst}
 use mathlib.Core.Bool.{Bool, true, false, cond, _||_}
-use mathlib.Core.Option.{Option, none, some}
+use mathlib.Core.Option.{none, some}
 use mathlib.Core.Logic.{_⊎_, inl, inr}
 use mathlib.Core.List.{List, [], _∷_, _++_, append-assoc, append-nil}
 use Prim.Native.Nat.{ℕ, zero, suc, _<_}
@@ -9,10 +9,10 @@ use native.Mathlib.Omega.{arith}
 use lib.Dec.{eqb}
 use borrow.Author.Tests.{eq-eqb, ne-eqb}
 use Rattle.litmus_model.specs.Bytes.{Token, same, isName}
-use Rattle.litmus_model.specs.Forms.{X86, opening, closing, semicolon, bar, exists, notExists, forall, Pattern, fits, Mention, nothing, aProcessor, mention, Form, form, cellForms, rowForms, markOf, Draft, blank, noted, Entry, entries, heading, isEnd}
+use Rattle.litmus_model.specs.Forms.{X86, opening, closing, semicolon, bar, exists, notExists, forall, Pattern, fits, Mention, nothing, aProcessor, Form, form, cellForms, rowForms, markOf, Draft, blank, noted, Entry, entries, heading, isEnd}
 use Rattle.model.specs.Lists.{In}
-use Rattle.litmus_model.specs.Grammar.{Said, said, plain, Fits, notedAll, Phrase, phrase, Header, header, Cells, Headings, Row, Rows, ignored, Text, text}
-use Rattle.litmus_model.specs.Reader.{advance, complete, Progress, going, closed, progress, Context, braces, row, formsIn, draftIn, next, Control, atStart, atName, atOpening, atEnd, beginning, within, atHeading, behindHeading, Stepped, stuck, went, leaves, left, onWith, step}
+use Rattle.litmus_model.specs.Grammar.{Said, plain, Fits, notedAll, Phrase, phrase, Header, header, Cells, Headings, Row, Rows, ignored, Text, text}
+use Rattle.litmus_model.specs.Reader.{advance, Context, braces, row, formsIn, draftIn, next, Control, atStart, atName, atOpening, atEnd, beginning, within, atHeading, behindHeading, went, leaves, onWith, step}
 use Rattle.litmus_model.proofs.Bools.{false-true, or-cases, same-true, same-refl}
 use Rattle.litmus_model.proofs.Forms.{Separate, advance-in, separate-on, complete-some}
 use Rattle.litmus_model.proofs.Progress.{progress-last, progress-more, forms-separate, forms-unfinished}

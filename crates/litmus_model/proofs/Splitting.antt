@@ -1,14 +1,14 @@
 -- The tokens of a text: the function finds exactly those that the definition says.
 use mathlib.Core.Path.{_≡_, refl, ap, sym, _∙_, subst}
-use mathlib.Core.Bool.{Bool, true, false, cond}
+use mathlib.Core.Bool.{Bool, true, false}
 use mathlib.Core.Logic.{_↔_}
 use mathlib.Core.List.{List, [], _∷_, _++_}
-use Prim.Native.Nat.{ℕ, zero, suc, _+_, _≤_}
+use Prim.Native.Nat.{ℕ, zero, suc, _+_}
 use native.Mathlib.Omega.{arith}
 use lib.ListN.{length, take, drop, take-append-drop}
 use lib.Seq.{take-append-seam, drop-append-seam, length-take-le}
 use Rattle.litmus_model.specs.Bytes.{Token, isBlank}
-use Rattle.litmus_model.specs.Tokens.{Placed, PieceAt, TokensFrom, none, blank, token, Tokens}
+use Rattle.litmus_model.specs.Tokens.{Placed, TokensFrom, none, blank, token, Tokens}
 use Rattle.litmus_model.specs.Splitting.{behindIn, tokensFrom, tokens}
 use Rattle.litmus_model.proofs.Pieces.{Here, piece-at, fits-at, here-at}
 

@@ -1,22 +1,22 @@
 -- Wherever the automaton comes to, it can be led on to its end.
-use mathlib.Core.Path.{_≡_, refl, ap, sym, _∙_, subst}
+use mathlib.Core.Path.{_≡_, refl, sym, _∙_}
 use mathlib.Core.Bool.{Bool, true, false, cond}
-use mathlib.Core.Option.{Option, none, some}
-use mathlib.Core.Logic.{_⊎_, inl, inr, _↔_}
-use mathlib.Core.List.{List, [], _∷_, _++_, append-assoc, append-nil}
-use Prim.Native.Nat.{ℕ, zero, suc, _<_, _≤_, _+_, _-_}
+use mathlib.Core.Option.{none, some}
+use mathlib.Core.Logic.{inl}
+use mathlib.Core.List.{List, [], _∷_, _++_}
+use Prim.Native.Nat.{ℕ, zero, suc, _<_, _+_, _-_}
 use native.Mathlib.Omega.{arith}
 use lib.Dec.{eqb}
 use borrow.Author.Tests.{eqb-false}
 use Rattle.litmus_model.specs.Bytes.{Token, isName, inName}
-use Rattle.litmus_model.specs.Forms.{X86, opening, closing, semicolon, bar, exists, Pattern, exactly, location, register, processor, constant, dollar, fits, Mention, nothing, aProcessor, mention, isEnd, Form, form, rowForms, markOf, Draft, blank, Entry, entries, heading}
+use Rattle.litmus_model.specs.Forms.{X86, opening, closing, semicolon, exists, Pattern, exactly, location, register, processor, constant, dollar, fits, nothing, aProcessor, mention, isEnd, Form, form, rowForms, markOf, Draft, blank, Entry, entries, heading}
 use Rattle.model.specs.Lists.{In}
-use Rattle.litmus_model.specs.Grammar.{Said, said, plain, Fits, notedAll, Phrase, phrase, Headings, Row, Text}
-use Rattle.litmus_model.specs.Reader.{complete, Context, braces, row, formsIn, draftIn, next, Control, atStart, atName, atOpening, atEnd, beginning, within, atHeading, behindHeading, step}
+use Rattle.litmus_model.specs.Grammar.{Said, said, plain, Fits, notedAll, Phrase, phrase}
+use Rattle.litmus_model.specs.Reader.{complete, Context, braces, row, next, Control, atStart, atName, atOpening, atEnd, beginning, within, atHeading, behindHeading, step}
 use Rattle.litmus_model.proofs.Bools.{same-refl}
 use Rattle.litmus_model.proofs.Forms.{Separate, complete-some}
-use Rattle.litmus_model.proofs.Runs.{Runs, done, more, runs-append, single, within-runs, phrase-runs, to-next, to-first, phrase-in-row, at-heading, at-bar, at-semicolon, at-closing-step, at-end, at-name}
-use Rattle.litmus_model.proofs.Reached.{Part, Before, cells, rows, Reached, start, named, opened, begun, inside, closed-cells, barred, headed, ended, some-headings}
+use Rattle.litmus_model.proofs.Runs.{Runs, done, runs-append, single, within-runs, to-next, to-first, phrase-in-row, at-heading, at-semicolon, at-closing-step, at-end, at-name}
+use Rattle.litmus_model.proofs.Reached.{Before, cells, rows, Reached, start, named, opened, begun, inside, closed-cells, barred, headed, ended}
 
 pub record Ends (c : Control) : Type 0 where
   pub rest : List Said

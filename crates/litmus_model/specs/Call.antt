@@ -5,7 +5,6 @@ use lib.ListN.{length}
 use Rattle.model.specs.declared.record.Record.{Record}
 use Rattle.model.specs.Sizes.{recordSize}
 use Rattle.model.specs.Record.{fileOf}
-use Rattle.model.specs.Kinds.{Entry}
 use Rattle.model.specs.Tests.{Tested, passed, andThen, inOrder}
 use Rattle.model.specs.Reading.{readRecord}
 use Rattle.model.specs.Reply.{Reply}

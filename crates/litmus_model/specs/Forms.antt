@@ -1,7 +1,7 @@
 -- The forms of initial cells and of instructions, and what their tokens say (document 01, "The litmus text form").
-use mathlib.Core.Bool.{Bool, true, false, cond, _||_}
+use mathlib.Core.Bool.{Bool, cond, _||_}
 use mathlib.Core.Option.{Option, none, some}
-use mathlib.Core.List.{List, [], _∷_, _++_, map}
+use mathlib.Core.List.{List, [], _∷_}
 use Prim.Native.Nat.{ℕ, zero, suc, _+_, _-_, _/_, _%_}
 use lib.ListN.{getD, drop}
 use lib.Dec.{eqb, ltb}

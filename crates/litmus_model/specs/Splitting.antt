@@ -1,10 +1,10 @@
 -- The tokens of a text, as a function.
-use mathlib.Core.Bool.{Bool, true, false, cond}
+use mathlib.Core.Bool.{Bool, cond}
 use mathlib.Core.List.{List, [], _∷_}
-use Prim.Native.Nat.{ℕ, zero, suc, _+_}
-use lib.ListN.{length, take}
+use Prim.Native.Nat.{ℕ, zero, suc}
+use lib.ListN.{take}
 use lib.Dec.{eqb}
-use Rattle.litmus_model.specs.Bytes.{Token, isBlank, inWord, inName, isNumber, same}
+use Rattle.litmus_model.specs.Bytes.{isBlank, inWord, inName, isNumber, same}
 use Rattle.litmus_model.specs.Forms.{exists}
 use Rattle.litmus_model.specs.Tokens.{Placed}
 

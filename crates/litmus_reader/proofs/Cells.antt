@@ -1,11 +1,11 @@
 -- A form, token by token.
 use mathlib.Core.Path.{_≡_, refl, ap, sym, _∙_, subst}
-use mathlib.Core.Bool.{Bool, true, false, cond}
+use mathlib.Core.Bool.{Bool, true, cond}
 use mathlib.Core.Option.{Option, none, some}
 use mathlib.Core.List.{List, [], _∷_, _++_, map, append-nil}
-use Prim.Native.Nat.{ℕ, zero, suc, _+_, _-_, _≤_, _<_}
+use Prim.Native.Nat.{ℕ, zero, suc, _-_, _≤_, _<_}
 use native.Mathlib.Omega.{arith}
-use lib.ListN.{length, take, drop, getD, drop-of-length-le}
+use lib.ListN.{length, take, drop, getD}
 use lib.Seq.{drop-cons}
 use lib.Dec.{eqb}
 use borrow.Author.Tests.{ne-eqb}
@@ -13,19 +13,17 @@ use Rattle.model.specs.declared.record.Record.{Record}
 use Rattle.model.specs.Lists.{In}
 use Rattle.model.specs.Tests.{Tested, refused, unless}
 use Rattle.litmus_model.specs.Bytes.{Token}
-use Rattle.litmus_model.specs.Forms.{Pattern, fits, Mention, mention, Form, form, Draft, noted, Entry, entries}
+use Rattle.litmus_model.specs.Forms.{Pattern, fits, mention, Form, form, Draft, noted, entries}
 use Rattle.litmus_model.specs.Answers.{seenOn, recordOf}
-use Rattle.litmus_model.specs.Reader.{advance, mentionIn, judged, halted, progress, Context, formsIn, draftIn, next, beginning, within, stuck, went, onWith, step, fault, isAtEnd, carried}
+use Rattle.litmus_model.specs.Reader.{advance, mentionIn, judged, progress, Context, formsIn, draftIn, next, beginning, within, stuck, went, onWith, step, fault, isAtEnd, carried}
 use Rattle.litmus_model.proofs.Forms.{Separate, separate-on}
 use Rattle.litmus_model.proofs.Progress.{progress-last, progress-more, forms-separate}
 use Rattle.litmus_token.specs.declared.next.Span.{Span}
-use Rattle.litmus_token.specs.Spans.{ahead, partOf, Unnamed, Spans, ended, token}
+use Rattle.litmus_token.specs.Spans.{partOf, Unnamed, Spans, ended, token}
 use Rattle.litmus_form.specs.declared.place.Place.{Place}
-use Rattle.litmus_form.specs.Flags.{patternAt, codeAt, allForms, alives, Advanced, First}
+use Rattle.litmus_form.specs.Flags.{allForms, alives}
 use Rattle.litmus_form.specs.Places.{contextOf, markIn, flagsIn, blankIn}
-use Rattle.litmus_form.proofs.Alives.{alive-forms}
-use Rattle.litmus_form.proofs.Alive.{Alive, first-alive, none-alive}
-use Rattle.litmus_form.proofs.Places.{begun, table-of}
+use Rattle.litmus_form.proofs.Places.{begun}
 use Rattle.litmus_said.specs.Saying.{underway}
 use Rattle.litmus_reader.specs.Keeping.{given}
 use Rattle.litmus_reader.specs.Passing.{answer}

@@ -1,23 +1,23 @@
 -- The headings, token by token.
-use mathlib.Core.Path.{_≡_, refl, ap, sym, _∙_, subst}
+use mathlib.Core.Path.{_≡_, refl, ap, sym, _∙_}
 use mathlib.Core.Bool.{Bool, true, false, cond, _&&_}
 use mathlib.Core.Option.{Option, none, some}
-use mathlib.Core.List.{List, [], _∷_, _++_, append-nil}
-use Prim.Native.Nat.{ℕ, zero, suc, _+_, _/_, _%_, _≤_, _<_}
+use mathlib.Core.List.{List, [], _∷_, append-nil}
+use Prim.Native.Nat.{ℕ, suc, _+_, _/_, _%_, _≤_, _<_}
 use native.Mathlib.Omega.{arith}
 use lib.ListN.{length, getD}
-use lib.Dec.{eqb, leb}
+use lib.Dec.{eqb}
 use borrow.Author.Tests.{lt-ltb, lt-leb}
 use Rattle.model.specs.declared.record.Record.{Record}
-use Rattle.model.specs.Tests.{Tested, refused, unless}
+use Rattle.model.specs.Tests.{refused, unless}
 use Rattle.litmus_model.specs.Bytes.{Token, same}
-use Rattle.litmus_model.specs.Forms.{semicolon, bar, nothing, aProcessor, decimalFrom, heading}
+use Rattle.litmus_model.specs.Forms.{semicolon, bar, aProcessor, decimalFrom, heading}
 use Rattle.litmus_model.specs.Answers.{seenOn}
-use Rattle.litmus_model.specs.Reader.{row, atHeading, behindHeading, beginning, stuck, went, step, fault, isAtEnd, carried}
+use Rattle.litmus_model.specs.Reader.{row, atHeading, behindHeading, beginning, step, fault, isAtEnd, carried}
 use Rattle.litmus_model.proofs.Bools.{same-true}
 use Rattle.litmus_token.proofs.Scan.{same-lengths}
 use Rattle.litmus_token.specs.declared.next.Span.{Span}
-use Rattle.litmus_token.specs.Spans.{ahead, partOf, Unnamed, Spans}
+use Rattle.litmus_token.specs.Spans.{partOf, Unnamed, Spans}
 use Rattle.litmus_reader.specs.Passing.{answer}
 use Rattle.litmus_reader.proofs.Steps.{refused-at, went-at, plain-at, not-empty, later}
 

@@ -9,9 +9,9 @@ use Rattle.model.specs.declared.answer.Refusal.{Refusal}
 use Rattle.model.specs.Reply.{numberOf}
 use Rattle.model.specs.Tests.{refused}
 use Rattle.litmus_model.specs.Bytes.{Token, same, some, inName, isName}
-use Rattle.litmus_model.specs.Forms.{X86, opening, nothing}
+use Rattle.litmus_model.specs.Forms.{X86, opening}
 use Rattle.litmus_model.specs.Splitting.{tokens}
-use Rattle.litmus_model.specs.Reader.{atStart, atName, atOpening, beginning, braces, stuck, went, step, isAtEnd, carried, readTokens, readText}
+use Rattle.litmus_model.specs.Reader.{atStart, atName, atOpening, beginning, braces, step, isAtEnd, carried, readText}
 use Rattle.litmus_model.proofs.Bools.{false-true}
 use Rattle.litmus_model.proofs.Following.{carried-reads}
 use Rattle.litmus_token.specs.declared.next.Span.{Span}

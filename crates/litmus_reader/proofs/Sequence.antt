@@ -2,19 +2,19 @@
 use mathlib.Core.Path.{_≡_, refl, ap, sym, _∙_, subst}
 use mathlib.Core.Bool.{Bool, true, false, cond}
 use mathlib.Core.List.{List, [], _∷_, _++_, append-nil}
-use Prim.Native.Nat.{ℕ, zero, suc, _+_, _≤_, _<_}
+use Prim.Native.Nat.{ℕ, zero, suc, _≤_, _<_}
 use native.Mathlib.Omega.{arith}
 use lib.ListN.{length}
 use lib.Dec.{eqb}
 use Rattle.model.specs.declared.record.Record.{Record}
 use Rattle.model.specs.declared.answer.Refusal.{Refusal}
 use Rattle.model.specs.Reply.{numberOf}
-use Rattle.model.specs.Tests.{Tested, passed, refused, unless}
+use Rattle.model.specs.Tests.{passed, refused, unless}
 use Rattle.litmus_model.specs.Bytes.{Token, same}
 use Rattle.litmus_model.specs.Tokens.{Placed}
 use Rattle.litmus_model.specs.Forms.{nothing, isEnd}
 use Rattle.litmus_model.specs.Answers.{seenOn}
-use Rattle.litmus_model.specs.Reader.{progress, Context, braces, row, formsIn, draftIn, next, Control, atEnd, beginning, within, Stepped, stuck, went, leaves, left, onWith, step, fault, isAtEnd, carried}
+use Rattle.litmus_model.specs.Reader.{Context, braces, row, formsIn, draftIn, next, Control, atEnd, beginning, within, Stepped, stuck, went, leaves, left, step, fault, isAtEnd, carried}
 use Rattle.litmus_model.proofs.Bools.{false-true}
 use Rattle.litmus_model.proofs.Following.{follow-end, follow-stuck, follow-went}
 use Rattle.litmus_token.specs.declared.next.Span.{Span}
@@ -24,7 +24,7 @@ use Rattle.litmus_form.specs.Places.{contextOf, nextIn}
 use Rattle.litmus_form.proofs.Places.{next-context}
 use Rattle.litmus_reader.specs.declared.form.Cell.{Cell}
 use Rattle.litmus_reader.specs.declared.form.Cell.the-variants.{Read, Refused}
-use Rattle.litmus_reader.specs.Keeping.{Keeps, given, KeepsOn}
+use Rattle.litmus_reader.specs.Keeping.{given}
 use Rattle.litmus_reader.specs.Passing.{answer}
 use Rattle.litmus_reader.specs.Forming.{inForm, closed, CellAhead, FormRead}
 use Rattle.litmus_reader.proofs.Steps.{plain-at, later}

@@ -1,23 +1,21 @@
 -- One token of a text.
-use mathlib.Core.Path.{_≡_, refl, ap, sym, _∙_, subst}
+use mathlib.Core.Path.{_≡_, refl, ap, sym, _∙_}
 use mathlib.Core.Bool.{Bool, true, false, cond}
 use mathlib.Core.List.{List, [], _∷_, _++_, map, append-nil}
-use Prim.Native.Nat.{ℕ, zero, suc, _+_, _-_, _≤_, _<_}
+use Prim.Native.Nat.{ℕ, zero, suc, _-_, _≤_, _<_}
 use native.Mathlib.Omega.{arith}
 use lib.ListN.{length, take, drop}
 use Rattle.model.specs.declared.record.Record.{Record}
-use Rattle.model.specs.Tests.{Tested, passed, refused, unless}
+use Rattle.model.specs.Tests.{passed, refused, unless}
 use Rattle.litmus_model.specs.Bytes.{Token, isBlank, same}
-use Rattle.litmus_model.specs.Tokens.{Placed}
 use Rattle.litmus_model.specs.Forms.{Mention, nothing, Entry}
 use Rattle.litmus_model.specs.Answers.{seenOn, recordOf}
 use Rattle.litmus_model.specs.Splitting.{behind, behindIn, tokensFrom}
-use Rattle.litmus_model.specs.Reader.{Control, Stepped, stuck, went, step, fault, isAtEnd, carried}
+use Rattle.litmus_model.specs.Reader.{Control, stuck, went, step, fault, isAtEnd, carried}
 use Rattle.litmus_model.proofs.Bools.{false-true}
 use Rattle.litmus_model.proofs.Following.{follow-end, follow-stuck, follow-went}
 use Rattle.litmus_token.specs.declared.next.Span.{Span}
-use Rattle.litmus_token.specs.Spans.{ahead, partOf, Named, Unnamed, Spans, ended, token}
-use Rattle.litmus_reader.specs.Passing.{answer}
+use Rattle.litmus_token.specs.Spans.{ahead, partOf, Spans, ended, token}
 
 -- ---- behind the name all is alike
 

@@ -1,6 +1,6 @@
 -- What reading a form promises, and reading forms up to the token that ends them, and a whole text.
 use mathlib.Core.Path.{_≡_}
-use mathlib.Core.List.{List, [], _++_}
+use mathlib.Core.List.{List, _++_}
 use Prim.Native.Nat.{ℕ, _≤_, _<_}
 use lib.ListN.{length}
 use Rattle.model.specs.declared.answer.Answer.{Answer}

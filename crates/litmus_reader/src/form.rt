@@ -1,5 +1,4 @@
 // A form: an initial cell, or a cell of a row, up to the mark that closes it.
-ghost use mathlib.Core.Path.{_≡_};
 ghost use Prim.Native.Nat.{_≤_};
 ghost use lib.ListN.{length};
 ghost use Rattle.model.specs.Sizes.{locations};

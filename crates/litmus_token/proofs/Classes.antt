@@ -1,20 +1,19 @@
 -- Classes of bytes, by their numbers; numbers and constants, as code tests them.
-use mathlib.Core.Path.{_≡_, refl, ap, sym, _∙_, subst}
-use mathlib.Core.Bool.{Bool, true, false, cond, not, _&&_}
-use mathlib.Core.List.{List, [], _∷_, _++_}
+use mathlib.Core.Path.{_≡_, refl, ap, sym, _∙_}
+use mathlib.Core.Bool.{Bool, true, false, cond, _&&_}
+use mathlib.Core.List.{List, [], _∷_}
 use Prim.Native.Nat.{ℕ, zero, suc, _+_, _-_, _≤_, _<_}
 use native.Mathlib.Omega.{arith}
 use native.Mathlib.Numerals.{add-one}
 use lib.ListN.{length, take, drop, getD, drop-of-length-le}
 use lib.Seq.{take-length, drop-cons}
 use Rattle.litmus_model.proofs.Pieces.{word-behind, dollar-behind, minus-behind, tilde-behind, other, six-long}
-use lib.Dec.{eqb, leb, ltb, eqb·suc-suc}
-use borrow.Author.Tests.{eq-eqb, ne-eqb, eqb-true, lt-ltb}
+use lib.Dec.{eqb, ltb, eqb·suc-suc}
+use borrow.Author.Tests.{eq-eqb, ne-eqb, lt-ltb}
 use Rattle.litmus_model.specs.Bytes.{Token, isBlank, isDigit, inWord, inName, all, some, isNumber, isConstant, isDollar, same}
 use Rattle.litmus_model.specs.Forms.{exists}
 use Rattle.litmus_token.specs.Classes.{classOf}
 use Rattle.litmus_model.specs.Splitting.{run, numberLength, oneMore, signedLength, behind}
-use Rattle.litmus_model.proofs.Bools.{false-true, and-true, and-left, and-right}
 
 pub class-word : (class b : ℕ) → class ≡ 0 → inWord b ≡ classOf class b
 unfolding classOf

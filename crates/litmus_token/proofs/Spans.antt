@@ -6,13 +6,12 @@ use Prim.Native.Nat.{ℕ, zero, suc, _+_, _-_, _≤_, _<_}
 use native.Mathlib.Omega.{arith}
 use lib.ListN.{length, take, drop, getD, drop-of-length-le, length-drop}
 use lib.Seq.{drop-cons, drop-drop, getD-drop}
-use Rattle.litmus_model.specs.Bytes.{Token, isBlank, inName}
-use Rattle.litmus_model.specs.Tokens.{Placed}
+use Rattle.litmus_model.specs.Bytes.{isBlank, inName}
 use Rattle.litmus_model.specs.Splitting.{run, behind, behindIn, tokensFrom}
 use Rattle.litmus_model.proofs.Splitting.{placed, on-blank, on-token, skipped}
 use Rattle.litmus_token.specs.declared.next.Span.{Span}
 use Rattle.litmus_token.specs.Classes.{classOf}
-use Rattle.litmus_token.specs.Spans.{ahead, partOf, Named, Unnamed, Spans, ended, token}
+use Rattle.litmus_token.specs.Spans.{ahead, Named, Unnamed, Spans, ended, token}
 use Rattle.litmus_token.proofs.Classes.{run-blank, run-name}
 
 -- ---- blanks

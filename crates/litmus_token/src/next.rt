@@ -1,5 +1,4 @@
 // The next token of a text.
-ghost use mathlib.Core.Path.{_≡_};
 ghost use Prim.Native.Nat.{_≤_};
 ghost use lib.ListN.{length};
 ghost use Rattle.litmus_token.specs.Spans.{Spans, Named, Unnamed};

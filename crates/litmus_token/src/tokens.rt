@@ -2,7 +2,7 @@
 ghost use mathlib.Core.Path.{_≡_};
 ghost use Prim.Native.Nat.{suc, _+_, _≤_, _<_};
 ghost use lib.ListN.{length, drop, getD};
-ghost use Rattle.litmus_model.specs.Bytes.{inWord, inName, isBlank, isNumber, isConstant, isDollar, isName, some};
+ghost use Rattle.litmus_model.specs.Bytes.{isNumber, isConstant, isDollar, isName};
 ghost use Rattle.litmus_token.specs.Classes.{classOf};
 ghost use Rattle.litmus_model.specs.Splitting.{run, numberLength, signedLength, behind};
 use crate::words::same_bytes;

@@ -1,9 +1,6 @@
 // Tokens that stand for themselves, registers, locations.
 ghost use mathlib.Core.Path.{_≡_};
-ghost use lib.ListN.{length, drop, getD};
-ghost use Rattle.litmus_model.specs.Bytes.{same, isDigit, isRegister, isLocation};
-ghost use Rattle.litmus_model.specs.Bytes.{some};
-ghost use Rattle.litmus_model.specs.Splitting.{run};
+ghost use Rattle.litmus_model.specs.Bytes.{same, isRegister, isLocation};
 
 // The two are the same bytes.
 pub fn same_bytes(word: &[u8], t: &[u8]) -> bool

@@ -3,8 +3,6 @@ use borrow.Author.Tests.{eq-eqb, ne-eqb}
 use borrow.Author.Needs.{needs}
 use Rattle.litmus_form.proofs.forms.code_at.Statement.{statement}
 use Rattle.litmus_form.proofs.forms.code_at.Tie as tie
-use Rattle.litmus_form.proofs.forms.code_at.Reads as reads
-use Rattle.litmus_form.proofs.forms.code_at.Lts as lts
 
 -- src/forms.rt:69:16
 mul-code : tie.Need-mul-code

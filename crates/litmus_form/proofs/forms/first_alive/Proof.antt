@@ -1,16 +1,13 @@
 -- `litmus_form::forms::first_alive` meets its contract. Assumes nothing.
 use Rattle.litmus_form.proofs.Codes.{none-before}
 use borrow.Author.Needs.{needs}
-use lib.ListN.{length, take, drop, getD}
-use native.Mathlib.Numerals.{add-one}
+use lib.ListN.{getD}
 use native.Mathlib.Omega.{arith}
-use Prim.Native.Nat.{ℕ, _+_, _*_, _-_, _≤_, _<_}
+use Prim.Native.Nat.{ℕ, _-_, _≤_, _<_}
 use mathlib.Core.Bool.{false}
-use mathlib.Core.Path.{_≡_, sym, ap, _∙_}
+use mathlib.Core.Path.{_≡_}
 use Rattle.litmus_form.proofs.forms.first_alive.Statement.{statement}
 use Rattle.litmus_form.proofs.forms.first_alive.Tie as tie
-use Rattle.litmus_form.proofs.forms.first_alive.Reads as reads
-use Rattle.litmus_form.proofs.forms.first_alive.Lts as lts
 
 abbrev Inv-loop : tie.InvT-loop
 Inv-loop alive j₀ j = (j ≤ 12) × ((k : ℕ) → k < j → getD alive k false ≡ false)

@@ -1,20 +1,11 @@
 -- `litmus_form::patterns::fits_code` meets its contract. Assumes nothing.
-use Rattle.litmus_form.proofs.Codes.{mark-other, mark-one, fits-mark, arm, fits-none}
+use Rattle.litmus_form.proofs.Codes.{fits-mark, arm, fits-none}
 use Rattle.litmus_form.specs.Flags.{patternAt}
 use Rattle.litmus_model.specs.Forms.{fits}
-use mathlib.Core.Path.{_≡_, _∙_}
+use mathlib.Core.Path.{_∙_}
 use borrow.Author.Needs.{needs}
 use Rattle.litmus_form.proofs.patterns.fits_code.Statement.{statement}
 use Rattle.litmus_form.proofs.patterns.fits_code.Tie as tie
-use Rattle.litmus_form.proofs.patterns.fits_code.Reads as reads
-use Rattle.litmus_form.proofs.patterns.fits_code.Lts as lts
-use Rattle.litmus_form.proofs.patterns.is_mark.Reads as is-mark-reads
-use Rattle.litmus_token.proofs.tokens.is_constant.Reads as is-constant-reads
-use Rattle.litmus_token.proofs.tokens.is_dollar.Reads as is-dollar-reads
-use Rattle.litmus_token.proofs.tokens.is_number.Reads as is-number-reads
-use Rattle.litmus_token.proofs.words.is_location.Reads as is-location-reads
-use Rattle.litmus_token.proofs.words.is_register.Reads as is-register-reads
-use Rattle.litmus_token.proofs.words.same_bytes.Reads as same-bytes-reads
 
 -- src/forms.rt:47:9
 is-mark-requires : tie.Need-is-mark-requires

@@ -1,10 +1,8 @@
 -- `litmus_form::patterns::is_mark` meets its contract. Assumes nothing.
-use Rattle.litmus_form.proofs.Codes.{mark-other, mark-one, fits-mark, arm, fits-none}
+use Rattle.litmus_form.proofs.Codes.{mark-other, mark-one}
 use borrow.Author.Needs.{needs}
 use Rattle.litmus_form.proofs.patterns.is_mark.Statement.{statement}
 use Rattle.litmus_form.proofs.patterns.is_mark.Tie as tie
-use Rattle.litmus_form.proofs.patterns.is_mark.Reads as reads
-use Rattle.litmus_form.proofs.patterns.is_mark.Lts as lts
 
 -- src/forms.rt:37:9
 returns : tie.Need-returns

@@ -3,9 +3,6 @@ use mathlib.Core.Path.{ap}
 use borrow.Author.Needs.{needs}
 use Rattle.litmus_form.proofs.place.blank_in.Statement.{statement}
 use Rattle.litmus_form.proofs.place.blank_in.Tie as tie
-use Rattle.litmus_form.proofs.place.blank_in.Reads as reads
-use Rattle.litmus_form.proofs.place.blank_in.Lts as lts
-use Rattle.litmus_form.proofs.place.column.Reads as column-reads
 
 -- src/place.rt:63:20
 column-requires : tie.Need-column-requires

@@ -3,8 +3,6 @@ use mathlib.Core.Path.{ap, sym}
 use borrow.Author.Needs.{needs}
 use Rattle.litmus_form.proofs.place.flags_in.Statement.{statement}
 use Rattle.litmus_form.proofs.place.flags_in.Tie as tie
-use Rattle.litmus_form.proofs.place.flags_in.Reads as reads
-use Rattle.litmus_form.proofs.place.flags_in.Lts as lts
 
 -- src/place.rt:36:26
 enum-told : tie.Need-enum-told

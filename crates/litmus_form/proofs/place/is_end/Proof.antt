@@ -2,9 +2,6 @@ use Rattle.litmus_model.specs.Forms.{isEnd}
 use borrow.Author.Needs.{needs}
 use Rattle.litmus_form.proofs.place.is_end.Statement.{statement}
 use Rattle.litmus_form.proofs.place.is_end.Tie as tie
-use Rattle.litmus_form.proofs.place.is_end.Reads as reads
-use Rattle.litmus_form.proofs.place.is_end.Lts as lts
-use Rattle.litmus_token.proofs.words.same_bytes.Reads as same-bytes-reads
 
 -- src/place.rt:89:16
 slice-aggregate-same-bytes : tie.Need-slice-aggregate-same-bytes

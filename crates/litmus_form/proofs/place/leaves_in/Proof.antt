@@ -1,12 +1,7 @@
-use Rattle.litmus_form.proofs.Places.{row-sound, mark-last, mark-before, next-first, next-more, leaves-braces, leaves-row}
-use native.Mathlib.Omega.{arith}
+use Rattle.litmus_form.proofs.Places.{leaves-braces, leaves-row}
 use borrow.Author.Needs.{needs}
 use Rattle.litmus_form.proofs.place.leaves_in.Statement.{statement}
 use Rattle.litmus_form.proofs.place.leaves_in.Tie as tie
-use Rattle.litmus_form.proofs.place.leaves_in.Reads as reads
-use Rattle.litmus_form.proofs.place.leaves_in.Lts as lts
-use Rattle.litmus_form.proofs.patterns.is_mark.Reads as is-mark-reads
-use Rattle.litmus_form.proofs.place.is_end.Reads as is-end-reads
 
 -- src/place.rt:97:26
 enum-told : tie.Need-enum-told

@@ -1,10 +1,8 @@
-use Rattle.litmus_form.proofs.Places.{row-sound, mark-last, mark-before, next-first, next-more, leaves-braces, leaves-row}
+use Rattle.litmus_form.proofs.Places.{row-sound, next-first, next-more}
 use native.Mathlib.Omega.{arith}
 use borrow.Author.Needs.{needs}
 use Rattle.litmus_form.proofs.place.next_in.Statement.{statement}
 use Rattle.litmus_form.proofs.place.next_in.Tie as tie
-use Rattle.litmus_form.proofs.place.next_in.Reads as reads
-use Rattle.litmus_form.proofs.place.next_in.Lts as lts
 
 -- src/place.rt:76:26
 enum-told : tie.Need-enum-told

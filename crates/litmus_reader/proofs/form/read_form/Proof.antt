@@ -1,13 +1,10 @@
 -- `litmus_reader::form::read_form` meets its contract. Assumes nothing.
-use mathlib.Core.Path.{_≡_, refl, ap, sym, _∙_, subst}
-use mathlib.Core.Bool.{Bool}
-use mathlib.Core.List.{List}
-use Prim.Native.Nat.{ℕ, suc, _+_, _-_, _≤_, _<_}
+use mathlib.Core.Path.{_≡_, refl}
+use Prim.Native.Nat.{_-_, _≤_, _<_}
 use native.Mathlib.Numerals.{add-one}
 use native.Mathlib.Omega.{arith}
 use lib.ListN.{length}
 use borrow.Author.Needs.{needs}
-use Rattle.model.specs.declared.record.Record.{Record}
 use Rattle.litmus_form.specs.declared.place.Place.{Place}
 use Rattle.litmus_form.specs.Places.{markIn, flagsIn, blankIn}
 use Rattle.litmus_said.specs.Saying.{seenIn}
@@ -15,16 +12,6 @@ use Rattle.litmus_reader.proofs.Cells.{Reading, begin, cell-unended}
 use Rattle.litmus_reader.proofs.Turns.{turn-none, turn-past, fits-there, turn-wrong, turn-closed, turn-shorter, turn-on}
 use Rattle.litmus_reader.proofs.form.read_form.Statement.{statement}
 use Rattle.litmus_reader.proofs.form.read_form.Tie as tie
-use Rattle.litmus_reader.proofs.form.read_form.Reads as reads
-use Rattle.litmus_reader.proofs.form.read_form.Lts as lts
-use Rattle.litmus_form.proofs.forms.advance.Reads as advance-reads
-use Rattle.litmus_form.proofs.forms.code_at.Reads as code-at-reads
-use Rattle.litmus_form.proofs.forms.first_alive.Reads as first-alive-reads
-use Rattle.litmus_form.proofs.place.blank_in.Reads as blank-in-reads
-use Rattle.litmus_form.proofs.place.flags_in.Reads as flags-in-reads
-use Rattle.litmus_form.proofs.place.mark_in.Reads as mark-in-reads
-use Rattle.litmus_said.proofs.note.note.Reads as note-reads
-use Rattle.litmus_token.proofs.next.next_token.Reads as next-token-reads
 
 abbrev Inv-loop : tie.InvT-loop
 Inv-loop text at seen₀ letters₀ mark alive₀ r₀ at₀ i₀ seen letters alive r at' i =

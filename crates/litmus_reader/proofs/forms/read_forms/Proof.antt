@@ -1,14 +1,14 @@
 -- `litmus_reader::forms::read_forms` meets its contract. Assumes nothing.
 use mathlib.Core.Path.{_≡_, refl, ap, sym, _∙_, subst}
 use mathlib.Core.List.{List, _++_}
-use Prim.Native.Nat.{ℕ, suc, _+_, _-_, _≤_, _<_}
+use Prim.Native.Nat.{_-_, _≤_}
 use native.Mathlib.Omega.{arith}
 use lib.ListN.{length}
 use borrow.Author.Needs.{needs}
 use Rattle.model.specs.declared.record.Record.{Record}
 use Rattle.litmus_model.specs.Reader.{Control, beginning, left}
 use Rattle.litmus_form.specs.declared.place.Place.{Place}
-use Rattle.litmus_form.specs.Places.{contextOf, Sound, nextIn}
+use Rattle.litmus_form.specs.Places.{contextOf, Sound}
 use Rattle.litmus_form.proofs.Places.{next-sound}
 use Rattle.litmus_said.specs.Saying.{seenIn}
 use Rattle.litmus_reader.specs.Keeping.{Keeps, given}
@@ -16,13 +16,6 @@ use Rattle.litmus_reader.specs.Passing.{answer}
 use Rattle.litmus_reader.proofs.Sequence.{leaves-on, to-form, form-refused, form-on, form-ahead, left-next}
 use Rattle.litmus_reader.proofs.forms.read_forms.Statement.{statement}
 use Rattle.litmus_reader.proofs.forms.read_forms.Tie as tie
-use Rattle.litmus_reader.proofs.forms.read_forms.Reads as reads
-use Rattle.litmus_reader.proofs.forms.read_forms.Lts as lts
-use Rattle.litmus_form.proofs.place.leaves_in.Reads as leaves-in-reads
-use Rattle.litmus_form.proofs.place.next_in.Reads as next-in-reads
-use Rattle.litmus_reader.proofs.form.read_form.Reads as read-form-reads
-use Rattle.litmus_reader.proofs.forms.keep.Reads as keep-reads
-use Rattle.litmus_token.proofs.next.next_token.Reads as next-token-reads
 
 abbrev Inv-loop : tie.InvT-loop
 Inv-loop text at seen₀ letters₀ records₀ count₀ place₀ at₀ seen letters records count place at' =

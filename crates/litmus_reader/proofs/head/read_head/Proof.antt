@@ -5,11 +5,6 @@ use mathlib.Core.Path.{sym, _∙_}
 use borrow.Author.Needs.{needs}
 use Rattle.litmus_reader.proofs.head.read_head.Statement.{statement}
 use Rattle.litmus_reader.proofs.head.read_head.Tie as tie
-use Rattle.litmus_reader.proofs.head.read_head.Reads as reads
-use Rattle.litmus_reader.proofs.head.read_head.Lts as lts
-use Rattle.litmus_form.proofs.patterns.is_mark.Reads as is-mark-reads
-use Rattle.litmus_reader.proofs.head.read_name.Reads as read-name-reads
-use Rattle.litmus_token.proofs.next.next_token.Reads as next-token-reads
 
 -- src/head.rt:36:11
 read-name-requires : tie.Need-read-name-requires

@@ -5,12 +5,6 @@ use mathlib.Core.Path.{sym, _∙_}
 use borrow.Author.Needs.{needs}
 use Rattle.litmus_reader.proofs.head.read_name.Statement.{statement}
 use Rattle.litmus_reader.proofs.head.read_name.Tie as tie
-use Rattle.litmus_reader.proofs.head.read_name.Reads as reads
-use Rattle.litmus_reader.proofs.head.read_name.Lts as lts
-use Rattle.litmus_token.proofs.next.next_name.Reads as next-name-reads
-use Rattle.litmus_token.proofs.next.next_token.Reads as next-token-reads
-use Rattle.litmus_token.proofs.tokens.is_name.Reads as is-name-reads
-use Rattle.litmus_token.proofs.words.same_bytes.Reads as same-bytes-reads
 
 -- src/head.rt:18:9
 next-token-requires : tie.Need-next-token-requires

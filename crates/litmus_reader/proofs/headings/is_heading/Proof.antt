@@ -2,8 +2,6 @@ use Rattle.litmus_reader.proofs.Columns.{is-heading, no-heading}
 use borrow.Author.Needs.{needs}
 use Rattle.litmus_reader.proofs.headings.is_heading.Statement.{statement}
 use Rattle.litmus_reader.proofs.headings.is_heading.Tie as tie
-use Rattle.litmus_reader.proofs.headings.is_heading.Reads as reads
-use Rattle.litmus_reader.proofs.headings.is_heading.Lts as lts
 
 -- src/headings.rt:26:9
 returns : tie.Need-returns

@@ -13,11 +13,6 @@ use Rattle.litmus_reader.specs.Passing.{answer}
 use Rattle.litmus_reader.proofs.Columns.{heading-refused, heading-fifth, heading-on, semicolon-on, bar-on, mark-refused}
 use Rattle.litmus_reader.proofs.headings.read_headings.Statement.{statement}
 use Rattle.litmus_reader.proofs.headings.read_headings.Tie as tie
-use Rattle.litmus_reader.proofs.headings.read_headings.Reads as reads
-use Rattle.litmus_reader.proofs.headings.read_headings.Lts as lts
-use Rattle.litmus_form.proofs.patterns.is_mark.Reads as is-mark-reads
-use Rattle.litmus_reader.proofs.headings.is_heading.Reads as is-heading-reads
-use Rattle.litmus_token.proofs.next.next_token.Reads as next-token-reads
 
 below : (n : ℕ) → n ≤ 4 → (n ≡ 4 → ⊥) → n < 4
 below n l e = omega (arith, e)

@@ -4,11 +4,6 @@ use native.Mathlib.Omega.{arith}
 use borrow.Author.Needs.{needs}
 use Rattle.litmus_reader.proofs.read.read_text.Statement.{statement}
 use Rattle.litmus_reader.proofs.read.read_text.Tie as tie
-use Rattle.litmus_reader.proofs.read.read_text.Reads as reads
-use Rattle.litmus_reader.proofs.read.read_text.Lts as lts
-use Rattle.litmus_reader.proofs.forms.read_forms.Reads as read-forms-reads
-use Rattle.litmus_reader.proofs.head.read_head.Reads as read-head-reads
-use Rattle.litmus_reader.proofs.headings.read_headings.Reads as read-headings-reads
 
 -- src/read.rt:22:23
 read-head-requires : tie.Need-read-head-requires

@@ -4,9 +4,6 @@ use Rattle.litmus_token.specs.Spans.{Named}
 use borrow.Author.Needs.{needs}
 use Rattle.litmus_token.proofs.next.next_name.Statement.{statement}
 use Rattle.litmus_token.proofs.next.next_name.Tie as tie
-use Rattle.litmus_token.proofs.next.next_name.Reads as reads
-use Rattle.litmus_token.proofs.next.next_name.Lts as lts
-use Rattle.litmus_token.proofs.tokens.run_end.Reads as run-end-reads
 
 -- src/next.rt:40:9
 run-end-requires : tie.Need-run-end-requires

@@ -4,10 +4,6 @@ use Rattle.litmus_token.specs.Spans.{Unnamed}
 use borrow.Author.Needs.{needs}
 use Rattle.litmus_token.proofs.next.next_token.Statement.{statement}
 use Rattle.litmus_token.proofs.next.next_token.Tie as tie
-use Rattle.litmus_token.proofs.next.next_token.Reads as reads
-use Rattle.litmus_token.proofs.next.next_token.Lts as lts
-use Rattle.litmus_token.proofs.tokens.run_end.Reads as run-end-reads
-use Rattle.litmus_token.proofs.tokens.token_end.Reads as token-end-reads
 
 -- src/next.rt:22:9
 run-end-requires : tie.Need-run-end-requires

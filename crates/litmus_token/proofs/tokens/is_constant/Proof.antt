@@ -1,13 +1,9 @@
 -- `litmus_token::tokens::is_constant` meets its contract. Assumes nothing.
-use mathlib.Core.Path.{_≡_, sym, _∙_}
-use native.Mathlib.Omega.{arith}
+use mathlib.Core.Path.{_∙_}
 use Rattle.litmus_token.proofs.Classes.{constant-none, constant-minus, constant-plain}
 use borrow.Author.Needs.{needs}
 use Rattle.litmus_token.proofs.tokens.is_constant.Statement.{statement}
 use Rattle.litmus_token.proofs.tokens.is_constant.Tie as tie
-use Rattle.litmus_token.proofs.tokens.is_constant.Reads as reads
-use Rattle.litmus_token.proofs.tokens.is_constant.Lts as lts
-use Rattle.litmus_token.proofs.tokens.is_number.Reads as is-number-reads
 
 -- src/tokens.rt:61:9
 returns : tie.Need-returns

@@ -1,13 +1,9 @@
 -- `litmus_token::tokens::is_dollar` meets its contract. Assumes nothing.
 use Rattle.litmus_token.proofs.Classes.{dollar-none, dollar-other, dollar-sign}
-use native.Mathlib.Omega.{arith}
-use mathlib.Core.Path.{_≡_, sym, _∙_}
+use mathlib.Core.Path.{_∙_}
 use borrow.Author.Needs.{needs}
 use Rattle.litmus_token.proofs.tokens.is_dollar.Statement.{statement}
 use Rattle.litmus_token.proofs.tokens.is_dollar.Tie as tie
-use Rattle.litmus_token.proofs.tokens.is_dollar.Reads as reads
-use Rattle.litmus_token.proofs.tokens.is_dollar.Lts as lts
-use Rattle.litmus_token.proofs.tokens.is_constant.Reads as is-constant-reads
 
 -- src/tokens.rt:74:9
 returns : tie.Need-returns

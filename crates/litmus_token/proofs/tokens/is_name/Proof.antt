@@ -3,9 +3,6 @@ use Rattle.litmus_token.proofs.Classes.{name-test}
 use borrow.Author.Needs.{needs}
 use Rattle.litmus_token.proofs.tokens.is_name.Statement.{statement}
 use Rattle.litmus_token.proofs.tokens.is_name.Tie as tie
-use Rattle.litmus_token.proofs.tokens.is_name.Reads as reads
-use Rattle.litmus_token.proofs.tokens.is_name.Lts as lts
-use Rattle.litmus_token.proofs.tokens.run_end.Reads as run-end-reads
 
 -- src/tokens.rt:141:9
 run-end-requires : tie.Need-run-end-requires

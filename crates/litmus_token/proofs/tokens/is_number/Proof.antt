@@ -3,9 +3,6 @@ use Rattle.litmus_token.proofs.Classes.{number-test}
 use borrow.Author.Needs.{needs}
 use Rattle.litmus_token.proofs.tokens.is_number.Statement.{statement}
 use Rattle.litmus_token.proofs.tokens.is_number.Tie as tie
-use Rattle.litmus_token.proofs.tokens.is_number.Reads as reads
-use Rattle.litmus_token.proofs.tokens.is_number.Lts as lts
-use Rattle.litmus_token.proofs.tokens.run_end.Reads as run-end-reads
 
 -- src/tokens.rt:52:9
 run-end-requires : tie.Need-run-end-requires

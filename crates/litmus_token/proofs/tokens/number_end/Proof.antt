@@ -1,14 +1,9 @@
 -- `litmus_token::tokens::number_end` meets its contract. Assumes nothing.
-use mathlib.Core.Path.{_≡_, sym, _∙_}
-use native.Mathlib.Omega.{arith}
+use mathlib.Core.Path.{sym, _∙_}
 use Rattle.litmus_token.proofs.Classes.{number-here, no-number-here}
 use borrow.Author.Needs.{needs}
 use Rattle.litmus_token.proofs.tokens.number_end.Statement.{statement}
 use Rattle.litmus_token.proofs.tokens.number_end.Tie as tie
-use Rattle.litmus_token.proofs.tokens.number_end.Reads as reads
-use Rattle.litmus_token.proofs.tokens.number_end.Lts as lts
-use Rattle.litmus_token.proofs.tokens.is_number.Reads as is-number-reads
-use Rattle.litmus_token.proofs.tokens.run_end.Reads as run-end-reads
 
 -- src/tokens.rt:87:9
 run-end-requires : tie.Need-run-end-requires

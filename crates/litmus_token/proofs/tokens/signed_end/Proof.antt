@@ -2,13 +2,10 @@
 use Rattle.litmus_token.proofs.Classes.{signed-end-none, signed-end-plain, signed-end-bare, signed-end-minus}
 use native.Mathlib.Omega.{arith}
 use Prim.Native.Nat.{ℕ, _+_}
-use mathlib.Core.Path.{_≡_, sym, ap, _∙_}
+use mathlib.Core.Path.{ap, _∙_}
 use borrow.Author.Needs.{needs}
 use Rattle.litmus_token.proofs.tokens.signed_end.Statement.{statement}
 use Rattle.litmus_token.proofs.tokens.signed_end.Tie as tie
-use Rattle.litmus_token.proofs.tokens.signed_end.Reads as reads
-use Rattle.litmus_token.proofs.tokens.signed_end.Lts as lts
-use Rattle.litmus_token.proofs.tokens.number_end.Reads as number-end-reads
 
 -- src/tokens.rt:100:9
 returns : tie.Need-returns

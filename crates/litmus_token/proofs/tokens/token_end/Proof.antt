@@ -1,17 +1,10 @@
 -- `litmus_token::tokens::token_end` meets its contract. Assumes nothing.
 use Rattle.litmus_token.proofs.Classes.{word-ends, dollar-ends, minus-ends, mark-ends, tilde-ends, tilde-mark}
 use native.Mathlib.Omega.{arith}
-use mathlib.Core.Path.{_≡_, sym, _∙_}
+use mathlib.Core.Path.{sym, _∙_}
 use borrow.Author.Needs.{needs}
 use Rattle.litmus_token.proofs.tokens.token_end.Statement.{statement}
 use Rattle.litmus_token.proofs.tokens.token_end.Tie as tie
-use Rattle.litmus_token.proofs.tokens.token_end.Reads as reads
-use Rattle.litmus_token.proofs.tokens.token_end.Lts as lts
-use Rattle.litmus_token.proofs.tokens.in_class.Reads as in-class-reads
-use Rattle.litmus_token.proofs.tokens.number_end.Reads as number-end-reads
-use Rattle.litmus_token.proofs.tokens.run_end.Reads as run-end-reads
-use Rattle.litmus_token.proofs.tokens.signed_end.Reads as signed-end-reads
-use Rattle.litmus_token.proofs.words.same_bytes.Reads as same-bytes-reads
 
 -- src/tokens.rt:117:13
 shared-slice-read-b : tie.Need-shared-slice-read-b

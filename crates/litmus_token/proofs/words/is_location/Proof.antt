@@ -3,8 +3,6 @@ use borrow.Author.Needs.{needs}
 use Rattle.litmus_token.proofs.Scan.{one-letter, no-letter}
 use Rattle.litmus_token.proofs.words.is_location.Statement.{statement}
 use Rattle.litmus_token.proofs.words.is_location.Tie as tie
-use Rattle.litmus_token.proofs.words.is_location.Reads as reads
-use Rattle.litmus_token.proofs.words.is_location.Lts as lts
 
 returns : tie.Need-returns
 returns c = no-letter (c .before .args .t .now) (c .if1 .taken)

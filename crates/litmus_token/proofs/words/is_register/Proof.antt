@@ -3,8 +3,6 @@ use borrow.Author.Needs.{needs}
 use Rattle.litmus_model.specs.Bytes.{isRegister}
 use Rattle.litmus_token.proofs.words.is_register.Statement.{statement}
 use Rattle.litmus_token.proofs.words.is_register.Tie as tie
-use Rattle.litmus_token.proofs.words.is_register.Reads as reads
-use Rattle.litmus_token.proofs.words.is_register.Lts as lts
 
 slice-aggregate-same-bytes : tie.Need-slice-aggregate-same-bytes
 slice-aggregate-same-bytes c = search needs

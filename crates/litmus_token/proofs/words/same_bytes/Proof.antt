@@ -1,6 +1,6 @@
 -- `litmus_token::words::same_bytes` meets its contract. Assumes nothing.
 use mathlib.Core.Path.{_≡_, sym, _∙_}
-use Prim.Native.Nat.{_≤_, _+_, _-_}
+use Prim.Native.Nat.{_≤_, _-_}
 use native.Mathlib.Omega.{arith}
 use native.Mathlib.Numerals.{add-one}
 use lib.ListN.{length, drop}
@@ -9,8 +9,6 @@ use Rattle.litmus_model.specs.Bytes.{same}
 use Rattle.litmus_token.proofs.Scan.{same-lengths, same-goes, same-differs, same-ends}
 use Rattle.litmus_token.proofs.words.same_bytes.Statement.{statement}
 use Rattle.litmus_token.proofs.words.same_bytes.Tie as tie
-use Rattle.litmus_token.proofs.words.same_bytes.Reads as reads
-use Rattle.litmus_token.proofs.words.same_bytes.Lts as lts
 
 abbrev Inv-loop : tie.InvT-loop
 Inv-loop word t i₀ i = (i ≤ length t) × (same word t ≡ same (drop i word) (drop i t))

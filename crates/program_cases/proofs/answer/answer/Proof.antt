@@ -1,5 +1,5 @@
 use native.Mathlib.Omega.{arith}
-use mathlib.Core.Path.{refl, sym, _∙_}
+use mathlib.Core.Path.{refl}
 use borrow.Author.Needs.{needs}
 use Rattle.program_cases.proofs.answer.answer.Statement.{statement}
 use Rattle.program_cases.proofs.answer.answer.Tie as tie

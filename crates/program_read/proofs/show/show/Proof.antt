@@ -1,6 +1,5 @@
 -- What was read leaves room behind it, by what `read_all` ensures.
-use mathlib.Core.Path.{_≡_, subst}
-use native.Mathlib.Omega.{arith}
+use mathlib.Core.Path.{subst}
 use borrow.Author.Needs.{needs}
 use Rattle.program_files.specs.declared.read.File.{File}
 use Rattle.program_files.specs.Files.{Within}

@@ -4,7 +4,6 @@ use mathlib.Core.Logic.{⊎-elim}
 use Prim.Native.Nat.{ℕ, _+_, _-_, _≤_}
 use native.Mathlib.Omega.{arith}
 use borrow.Author.Needs.{needs}
-use lib.ListN.{length}
 use Rattle.text_fault.specs.Places.{endsBefore, since}
 use Rattle.text_fault.proofs.Placing.{ends-more, since-none, ends-same, since-more}
 use Rattle.text_fault.proofs.position.position_at.Statement.{statement}
