@@ -12,7 +12,7 @@ use Rattle.record.specs.Words.{recordsIn}
 abbrev pub most : ℕ
 most = 89
 
--- the count is that of the records, and so many words have the first of them
+-- as many records as counted, the first of them in as many words, or in all 89
 pub record Keeps (words : List ℕ) (count : ℕ) (rs : List Record) : Type 0 where
   pub first : recordsIn (take count words) ≡ take most rs
   pub count-is : count ≡ length rs

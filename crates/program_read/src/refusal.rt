@@ -2,10 +2,10 @@
 ghost use Prim.Native.Nat.{_+_, _≤_};
 ghost use lib.ListN.{length};
 ghost use Rattle.program_read.specs.Places.{InText};
-use litmus_standing::standing::LIST;
 use litmus_standing::standing::TRIED;
-use litmus_standing::standing::put_standing;
 use litmus_standing::standing::standing_at;
+use litmus_standing::words::LIST;
+use litmus_standing::words::put_standing;
 use model::answer::Refusal;
 use model::number::number;
 use text::lines::put_refused;

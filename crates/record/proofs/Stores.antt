@@ -1,10 +1,12 @@
 -- Bytes set in turn are a value, or a record; and pieces written one behind the other.
 use mathlib.Core.Path.{_≡_, refl, ap, sym, _∙_}
-use mathlib.Core.List.{List, [], _∷_, _++_}
-use Prim.Native.Nat.{ℕ, suc, _+_, _*_, _/_, _%_, _≤_}
+use mathlib.Core.List.{List, [], _∷_, _++_, append-nil, append-assoc}
+use Prim.Native.Nat.{ℕ, zero, suc, _+_, _*_, _/_, _%_, _≤_, _<_}
+use native.Mathlib.Nat.{add-comm, zero-mul, suc-mul, le-of-suc-le-suc, not-suc-le-zero}
+use native.Mathlib.Numerals.{add-one}
 use native.Mathlib.Omega.{arith}
-use lib.ListN.{length, drop, set, length-set}
-use lib.Seq.{sets, sets-eq, take-at, drop-append-add, drop-drop}
+use lib.ListN.{length, take, drop, getD, set, length-set, length-append}
+use lib.Seq.{sets, sets-eq, take-at, take-length, length-take-le, drop-append-add, drop-drop}
 use Rattle.model.specs.declared.record.Record.{Record}
 use Rattle.model.specs.Sizes.{recordSize}
 use Rattle.model.specs.Record.{fourBytes, bytesOf, fileOf}
@@ -62,3 +64,36 @@ pub one-more : (front room : List ℕ) (i : ℕ) (r : Record) → length front �
     → withRecord (front ++ drop (i * recordSize) room) i r ≡ front ++ bytesOf r ++ drop (i * recordSize + recordSize) room
 unfolding withRecord
 one-more front room i r = next front room (bytesOf r) (i * recordSize)
+
+-- ---- pieces of one size, one for each word
+
+pub record Pieces (size : ℕ) (piece : ℕ → List ℕ) (all : List ℕ → List ℕ) : Type 0 where
+  pub sized : (w : ℕ) → length (piece w) ≡ size
+  pub none : all [] ≡ []
+  pub more : (w : ℕ) (ws : List ℕ) → all (w ∷ ws) ≡ piece w ++ all ws
+
+module _ {size : ℕ} {piece : ℕ → List ℕ} {all : List ℕ → List ℕ} (p : Pieces size piece all) where
+  pieces-long : (ws : List ℕ) → length (all ws) ≡ length ws * size
+  pieces-long [] = ap length (p .none) ∙ sym (zero-mul size)
+  pieces-long (w ∷ ws) =
+      ap length (p .more w ws) ∙ length-append (piece w) (all ws) ∙ (λ j. p .sized w j + pieces-long ws j)
+      ∙ add-comm size (length ws * size) ∙ sym (suc-mul (length ws) size)
+
+  one-more-piece : (ws : List ℕ) (i : ℕ) → i < length ws → all (take (suc i) ws) ≡ all (take i ws) ++ piece (getD ws i 0)
+  one-more-piece [] i h = absurd (not-suc-le-zero h)
+  one-more-piece (w ∷ ws) zero h = p .more w [] ∙ ap (λ (l : List ℕ). piece w ++ l) (p .none) ∙ append-nil (piece w) ∙ sym (ap (λ (l : List ℕ). l ++ piece w) (p .none))
+  one-more-piece (w ∷ ws) (suc i) h =
+      p .more w (take (suc i) ws) ∙ ap (λ (l : List ℕ). piece w ++ l) (one-more-piece ws i (le-of-suc-le-suc h))
+      ∙ sym (append-assoc (piece w) (all (take i ws)) (piece (getD ws i 0))) ∙ sym (ap (λ (l : List ℕ). l ++ piece (getD ws i 0)) (p .more w (take i ws)))
+
+  -- i are written, and the rest of the room is as it was: one more
+  pub writes-one : (ws room : List ℕ) (i : ℕ) → i < length ws
+      → with (all (take i ws) ++ drop (i * size) room) (i * size) (piece (getD ws i 0)) ≡ all (take (i + 1) ws) ++ drop ((i + 1) * size) room
+  writes-one ws room i h =
+      let long : length (all (take i ws)) ≡ i * size = pieces-long (take i ws) ∙ ap (λ (n : ℕ). n * size) (length-take-le i ws (omega arith)) in
+      next (all (take i ws)) room (piece (getD ws i 0)) (i * size) long
+      ∙ (λ j. sym (one-more-piece ws i h) j ++ drop ((ap (λ (n : ℕ). i * size + n) (p .sized (getD ws i 0)) ∙ sym (suc-mul i size)) j) room)
+      ∙ ap (λ (n : ℕ). all (take n ws) ++ drop (n * size) room) (sym (add-one i))
+
+  pub writes-all : (ws room : List ℕ) (i : ℕ) → i ≡ length ws → all (take i ws) ++ drop (i * size) room ≡ all ws ++ drop (length ws * size) room
+  writes-all ws room i e = ap (λ (n : ℕ). all (take n ws) ++ drop (n * size) room) e ∙ rw (take-length ws)

@@ -7,7 +7,8 @@ use lib.ListN.{length, take, drop, getD}
 use Rattle.model.specs.Sizes.{wordSize}
 use Rattle.record.specs.Bytes.{withValue}
 use Rattle.case.specs.Words.{bytesIn}
-use Rattle.case.proofs.Written.{writes-one, writes-all}
+use Rattle.record.proofs.Stores.{writes-one, writes-all}
+use Rattle.case.proofs.Written.{pieces}
 use Rattle.case.proofs.words.write_words.Statement.{statement}
 use Rattle.case.proofs.words.write_words.Tie as tie
 
@@ -22,6 +23,7 @@ unfolding bytesIn
 loop-holds c = (search needs, search needs, refl)
 
 loop-again : tie.Need-loop-again Inv-loop μ-loop
+unfolding withValue
 loop-again c =
     let put = c .before .before in
     let loop = put .before .before .before .before .loop in
@@ -29,14 +31,14 @@ loop-again c =
       search needs,
       search needs,
       put .put-value .ensures ∙ ap (λ (l : List ℕ). withValue l (loop .i * wordSize) (getD (a .words .now) (loop .i) 0)) (loop .inv .2)
-          ∙ writes-one (a .words .now) (a .bytes .now) (loop .i) (search needs),
+          ∙ writes-one pieces (a .words .now) (a .bytes .now) (loop .i) (search needs),
     )
 
 returns : tie.Need-returns Inv-loop μ-loop
 returns c =
     let loop = c .before .loop in
     let a = c .before .before .before .before .args in
-    loop .inv .2 ∙ writes-all (a .words .now) (a .bytes .now) (loop .i) (search needs)
+    loop .inv .2 ∙ writes-all pieces (a .words .now) (a .bytes .now) (loop .i) (search needs)
 
 pub write-words-spec : {M : Type 1} → statement M
 write-words-spec =

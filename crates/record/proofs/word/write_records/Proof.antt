@@ -5,10 +5,10 @@ use Prim.Native.Nat.{_*_, _-_, _≤_}
 use borrow.Author.Needs.{needs}
 use lib.ListN.{length, take, drop}
 use Rattle.model.specs.Sizes.{recordSize}
-use Rattle.model.specs.Record.{fileOf}
+use Rattle.model.specs.Record.{bytesOf, fileOf}
 use Rattle.record.specs.Bytes.{withRecord}
-use Rattle.record.specs.Words.{recordsIn}
-use Rattle.record.proofs.Packing.{writes-one, writes-all}
+use Rattle.record.specs.Words.{recordIn, recordsIn}
+use Rattle.record.proofs.Stores.{Pieces, writes-one, writes-all}
 use Rattle.record.proofs.word.write_records.Statement.{statement}
 use Rattle.record.proofs.word.write_records.Tie as tie
 
@@ -18,11 +18,17 @@ Inv-loop room₀ words i₀ room i = (i ≤ length words) × (length room ≡ le
 abbrev μ-loop : tie.MeasureT-loop
 μ-loop room₀ words i₀ room i = length words - i
 
+-- eight bytes for each word
+pieces : Pieces recordSize (λ w. bytesOf (recordIn w)) (λ ws. fileOf (recordsIn ws))
+unfolding fileOf
+pieces = record { sized = λ w. refl; none = refl; more = λ w ws. refl }
+
 loop-holds : tie.Need-loop-holds Inv-loop μ-loop
 unfolding fileOf
 loop-holds c = (search needs, search needs, refl)
 
 loop-again : tie.Need-loop-again Inv-loop μ-loop
+unfolding withRecord
 loop-again c =
     let write = c .before .before in
     let unpack = write .before in
@@ -31,14 +37,14 @@ loop-again c =
       search needs,
       search needs,
       write .write-record .ensures ∙ (λ j. withRecord (loop .inv .2 j) (loop .i) (unpack .unpacked .ensures j))
-          ∙ writes-one (a .words .now) (a .room .now) (loop .i) (search needs),
+          ∙ writes-one pieces (a .words .now) (a .room .now) (loop .i) (search needs),
     )
 
 returns : tie.Need-returns Inv-loop μ-loop
 returns c =
     let loop = c .before .loop in
     let a = c .before .before .before .before .args in
-    loop .inv .2 ∙ writes-all (a .words .now) (a .room .now) (loop .i) (search needs)
+    loop .inv .2 ∙ writes-all pieces (a .words .now) (a .room .now) (loop .i) (search needs)
 
 pub write-records-spec : {M : Type 1} → statement M
 write-records-spec =

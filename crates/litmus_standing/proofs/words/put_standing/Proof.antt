@@ -3,8 +3,8 @@ use mathlib.Core.Path.{_≡_}
 use Prim.Native.Nat.{_+_, _*_, _-_, _≤_}
 use borrow.Author.Needs.{needs}
 use lib.ListN.{length}
-use Rattle.litmus_standing.proofs.standing.put_standing.Statement.{statement}
-use Rattle.litmus_standing.proofs.standing.put_standing.Tie as tie
+use Rattle.litmus_standing.proofs.words.put_standing.Statement.{statement}
+use Rattle.litmus_standing.proofs.words.put_standing.Tie as tie
 
 abbrev Inv-loop : tie.InvT-loop
 Inv-loop out₀ at standing which next₀ done₀ k₀ out next done k =
