@@ -245,7 +245,7 @@ static void change(uint8_t *bytes, size_t *length, size_t room)
 
 static void same_both(const uint8_t *table, size_t table_bytes, const uint8_t *trace, size_t trace_bytes)
 {
-    same(0, table, table_bytes, trace, trace_bytes, below(4) == 0 ? below(30) : 24 + below(3));
+    same(0, table, table_bytes, trace, trace_bytes, below(4) == 0 ? below(30) : AMBERCELL_CHECK_WORDS + below(3));
     same(1, table, table_bytes, trace, trace_bytes, below(4) == 0 ? below(1000) : ROOM - 8 * below(3));
 }
 

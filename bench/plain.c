@@ -67,6 +67,7 @@ struct machine {
     uint32_t memory[LOCATIONS];
     uint32_t holder;
     uint32_t left; /* steps of a finished trace that have not been taken */
+    uint32_t own;  /* reads that own buffers served */
 };
 
 static ambercell_answer answer(uint64_t number, uint64_t place)
@@ -107,6 +108,7 @@ static ambercell_answer read_table(struct machine *m, const uint8_t *table, size
     memset(m->memory, 0, sizeof m->memory);
     m->holder = NOBODY;
     m->left = 0;
+    m->own = 0;
 
     for (size_t i = 0; i < records; i++) {
         struct record r = record_at(table + 8 * i);
@@ -149,13 +151,13 @@ static ambercell_answer read_table(struct machine *m, const uint8_t *table, size
     return answer(AMBERCELL_DONE, records);
 }
 
-/* The newest own waiting write to the location or, with none, memory. */
-static uint32_t seen(const struct machine *m, const struct processor *p, unsigned location)
+/* The newest own waiting write to the location, or NULL. */
+static const struct write *newest(const struct processor *p, unsigned location)
 {
     for (uint32_t i = p->issued; i > p->drained; i--)
         if (p->written[i - 1].location == location)
-            return p->written[i - 1].value;
-    return m->memory[location];
+            return &p->written[i - 1];
+    return NULL;
 }
 
 static uint32_t to_issue(const struct processor *p, const struct instruction *i)
@@ -225,14 +227,17 @@ static unsigned step(struct machine *m, struct record r)
     }
 
     const struct instruction *i = &p->program[p->at];
+    const struct write *own;
     if (p->at == p->instructions || program_steps[i->kind][p->phase] != r.kind)
         return AMBERCELL_ANOTHER_KIND;
     switch (r.kind) {
     case AMBERCELL_STEP_READ:
         if (blocked(m, r.processor))
             return AMBERCELL_LOCK_HELD;
-        if (i->location != r.location || seen(m, p, r.location) != r.value)
+        own = newest(p, r.location);
+        if (i->location != r.location || (own ? own->value : m->memory[r.location]) != r.value)
             return AMBERCELL_NOT_RIGHT;
+        m->own += own != NULL;
         read_value(p, i, r.value);
         return AMBERCELL_DONE;
     case AMBERCELL_STEP_WRITE:
@@ -305,7 +310,7 @@ static struct record move(struct machine *m, unsigned processor)
     switch (r.kind) {
     case AMBERCELL_STEP_READ:
         r.location = i->location;
-        r.value = seen(m, p, i->location);
+        r.value = m->memory[i->location]; /* nothing waits */
         read_value(p, i, r.value);
         return r;
     case AMBERCELL_STEP_WRITE:
@@ -345,6 +350,7 @@ ambercell_answer CHECK(const uint8_t *table, size_t table_bytes, const uint8_t *
     for (unsigned p = 0; p < PROCESSORS; p++)
         memcpy(room + REGISTERS * p, m.processors[p].registers, sizeof m.processors[p].registers);
     memcpy(room + REGISTERS * PROCESSORS, m.memory, sizeof m.memory);
+    room[AMBERCELL_OUTCOME_WORDS] = m.own;
     return a;
 }
 

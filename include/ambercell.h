@@ -107,9 +107,12 @@ enum {
     AMBERCELL_TEXT_CONSTANT = 21 /* a constant out of range */
 };
 
+/* How many words of a checked room are registers and memory: the word behind them is a count. */
+enum { AMBERCELL_OUTCOME_WORDS = 24 };
+
 /* Rooms that are always large enough. */
 enum {
-    AMBERCELL_CHECK_WORDS = 24,
+    AMBERCELL_CHECK_WORDS = 25,
     AMBERCELL_FINISH_BYTES = 2560, /* the longest finished trace has 320 steps */
     AMBERCELL_LITMUS_BYTES = 704   /* no table has more than 88 records */
 };
@@ -131,9 +134,10 @@ typedef struct { uint64_t number; uint64_t place; } ambercell_answer;
  */
 
 /*
- * Checks that the steps of a trace can happen and finish the run. On number 0 the first 24 words of
+ * Checks that the steps of a trace can happen and finish the run. On number 0 the first 25 words of
  * the room are the registers EAX, EBX, ECX, EDX of processor 0, then of 1, 2 and 3, then locations
- * 0 to 7.
+ * 0 to 7, and last how many of the reads got their value from a write that waited in the reader's
+ * own buffer (all others got it from memory).
  */
 ambercell_answer ambercell_check(const uint8_t *table, size_t table_bytes,
                                  const uint8_t *trace, size_t trace_bytes,

@@ -63,6 +63,7 @@ static int check(const uint8_t *trace, size_t bytes)
     print_words("p2", room + 8, 4);
     print_words("p3", room + 12, 4);
     print_words("m", room + 16, 8);
+    print_words("own", room + AMBERCELL_OUTCOME_WORDS, 1);
     return 0;
 }
 

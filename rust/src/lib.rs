@@ -42,8 +42,11 @@ mod tests;
 use answer::Answer;
 pub use refused::{Refusal, Refused};
 
-/// The words that [`check`] writes.
-pub const CHECK_WORDS: usize = 24;
+/// How many of the words that [`check`] writes are registers and memory.
+pub const OUTCOME_WORDS: usize = 24;
+
+/// The words that [`check`] writes: these, and how many reads own buffers served.
+pub const CHECK_WORDS: usize = 25;
 
 /// Bytes that are always enough for [`finish`]: the longest finished trace has 320 steps.
 pub const FINISH_BYTES: usize = 2560;
@@ -81,8 +84,9 @@ extern "C" {
 
 /// Checks that the steps of a trace can happen and finish the run, and gives their number.
 ///
-/// The first 24 words of the room are then the registers EAX, EBX, ECX, EDX of processor 0, then of
-/// 1, 2 and 3, then locations 0 to 7. Words past them keep their contents.
+/// The first 25 words of the room are then the registers EAX, EBX, ECX, EDX of processor 0, then of
+/// 1, 2 and 3, then locations 0 to 7, and last how many of the reads got their value from a write
+/// that waited in the reader's own buffer. Words past them keep their contents.
 pub fn check(table: &[u8], trace: &[u8], room: &mut [u32]) -> Result<usize, Refused> {
     // Safety: slices are valid memory, and a mutable one overlaps no other.
     let answer = unsafe {

@@ -2,7 +2,7 @@
 //! docs/FORMAT.md, and an answer becomes a result. tests/calls.rs calls the library.
 use crate::answer::Answer;
 use crate::refused::{Refusal, Refused};
-use crate::{CHECK_WORDS, FINISH_BYTES, LITMUS_BYTES};
+use crate::{CHECK_WORDS, FINISH_BYTES, LITMUS_BYTES, OUTCOME_WORDS};
 
 /// 11 is given no more.
 fn numbers() -> impl Iterator<Item = u64> {
@@ -76,6 +76,7 @@ fn a_refusal_says_its_number_its_place_and_why() {
 
 #[test]
 fn rooms_are_those_of_the_header() {
+    assert!(in_header("OUTCOME_WORDS", OUTCOME_WORDS as u64));
     assert!(in_header("CHECK_WORDS", CHECK_WORDS as u64));
     assert!(in_header("FINISH_BYTES", FINISH_BYTES as u64));
     assert!(in_header("LITMUS_BYTES", LITMUS_BYTES as u64));

@@ -1,6 +1,6 @@
 //! Calls from Rust, with answers of document 01's sheet.
 use ambercell::{
-    check, finish, litmus, Refusal, Refused, CHECK_WORDS, FINISH_BYTES, LITMUS_BYTES,
+    check, finish, litmus, Refusal, Refused, CHECK_WORDS, FINISH_BYTES, LITMUS_BYTES, OUTCOME_WORDS,
 };
 
 type Record = [u8; 8];
@@ -33,7 +33,7 @@ fn line_1_is_finished() {
     assert_eq!(check(&SB.concat(), &trace, &mut room), Ok(6));
     assert_eq!(room[..16], [0; 16]);
     assert_eq!(room[16..24], [1, 1, 0, 0, 0, 0, 0, 0]);
-    assert_eq!(room[24], 7);
+    assert_eq!(room[OUTCOME_WORDS..], [0, 7]);
 }
 
 #[test]
@@ -69,6 +69,24 @@ fn line_4_finishes_from_nothing() {
         check(&SB.concat(), &room[..48], &mut [0; CHECK_WORDS]),
         Ok(6)
     );
+}
+
+/// n6: worker 0 reads its own waiting write to x, and y from memory.
+#[test]
+fn line_6_counts_one_own_read() {
+    let store = |p, x, v| [3, p, 0, x, v, 0, 0, 0];
+    let load = |p, r, x| [5, p, r, x, 0, 0, 0, 0];
+    let step = |kind, p, x, v| [kind, p, 0, x, v, 0, 0, 0];
+    let (r, w, d) = (1, 2, 3);
+    let table = [store(0, 0, 1), load(0, 0, 0), load(0, 1, 1), store(1, 1, 2), store(1, 0, 2)];
+    let writes = [step(w, 1, 1, 2), step(w, 0, 0, 1)];
+    let reads = [step(r, 0, 0, 1), step(r, 0, 1, 0), step(w, 1, 0, 2)];
+    let drains = [step(d, 1, 1, 2), step(d, 1, 0, 2), step(d, 0, 0, 1)];
+    let trace = [writes.concat(), reads.concat(), drains.concat()].concat();
+    let mut room = [7; CHECK_WORDS];
+    assert_eq!(check(&table.concat(), &trace, &mut room), Ok(8));
+    assert_eq!(room[16..18], [1, 2]);
+    assert_eq!(room[OUTCOME_WORDS], 1);
 }
 
 #[test]

@@ -4,10 +4,10 @@ use crate::kinds::Step;
 use crate::litmus_text;
 use crate::record::{bytes, records, Record};
 use crate::reply::{self, Reply};
-use crate::run::{Run, CELLS};
+use crate::run::{Run, RESULT};
 use crate::table::{self, Table};
 
-/// Checks a whole trace. On 0 the room takes registers and memory.
+/// Checks a whole trace. On 0 the room takes registers, memory and the number of own-buffer reads.
 pub fn check(table: &[u8], trace: &[u8], room: &mut [u32]) -> Reply {
     reply(try_check(table, trace, room))
 }
@@ -29,7 +29,7 @@ fn try_check(table: &[u8], trace: &[u8], room: &mut [u32]) -> Result<usize, Repl
     if !run.finished() {
         return Err(Reply::new(reply::UNFINISHED, steps));
     }
-    lent(room, CELLS)?.copy_from_slice(&run.cells());
+    lent(room, RESULT)?.copy_from_slice(&run.result());
     Ok(steps)
 }
 
@@ -61,14 +61,24 @@ fn follow<'t>(table: &'t Table, trace: &[u8]) -> Result<Run<'t>, Reply> {
     if trace.len() % Record::BYTES != 0 {
         return Err(Reply::new(reply::TRACE_LENGTH, steps.len()));
     }
+    let run = beginning(table, &steps);
+    let place = run.steps().len();
+    match steps.get(place).and_then(|&step| refusal(&run, step)) {
+        Some(number) => Err(Reply::new(number, place)),
+        None => Ok(run),
+    }
+}
+
+/// The run up to the first step that is refused.
+pub fn beginning<'t>(table: &'t Table, steps: &[Record]) -> Run<'t> {
     let mut run = Run::new(table);
-    for (place, &step) in steps.iter().enumerate() {
-        if let Some(number) = refusal(&run, step) {
-            return Err(Reply::new(number, place));
+    for &step in steps {
+        if refusal(&run, step).is_some() {
+            break;
         }
         run.take(step);
     }
-    Ok(run)
+    run
 }
 
 /// Numbers 9 and 10 for one step, then 14 to 18.

@@ -1,26 +1,24 @@
 //! The two files of a folder, as text and as records.
 
+use crate::origins;
 use crate::text::{self, Wrong};
 use std::fs;
 use std::path::{Path, PathBuf};
 
-/// A file by its name without the ending, and how its text is read and written.
+/// A file by its name without the ending, and how its text is read.
 struct Part {
     name: &'static str,
     bytes: fn(&str) -> Result<Vec<u8>, Wrong>,
-    text: fn(&[u8]) -> String,
 }
 
 const TABLE: Part = Part {
     name: "table",
     bytes: text::table_bytes,
-    text: text::table_text,
 };
 
 const TRACE: Part = Part {
     name: "trace",
     bytes: text::trace_bytes,
-    text: text::trace_text,
 };
 
 impl Part {
@@ -60,10 +58,14 @@ pub fn to_records(folder: &Path) -> Result<(), String> {
 
 /// Records as texts, one after the other.
 pub fn to_text(folder: &Path) -> Result<String, String> {
-    let mut said = String::new();
-    for (part, from) in parts(folder, "rec") {
-        let bytes = fs::read(&from).map_err(failed(&from))?;
-        said += &format!("# {}\n{}", part.name, (part.text)(&bytes));
+    let mut read = Vec::new();
+    for (_, from) in parts(folder, "rec") {
+        read.push(fs::read(&from).map_err(failed(&from))?);
+    }
+    let table = &read[0];
+    let mut said = format!("# {}\n{}", TABLE.name, text::table_text(table));
+    if let Some(trace) = read.get(1) {
+        said += &format!("# {}\n{}", TRACE.name, origins::trace_text(table, trace));
     }
     Ok(said)
 }

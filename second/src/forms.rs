@@ -36,6 +36,12 @@ pub const TRACE: &Forms = &[
 /// A cell and what it holds: an initial record of the table, without `init`.
 pub const CELLS: &Forms = &["{location} {value}", "p{processor} {register} {value}"];
 
+/// A word of a result: a cell, or the number of reads served from own buffers.
+pub const RESULT: &Forms = &[CELLS[0], CELLS[1], "own {value}"];
+
+/// The kind of the form that is not a cell's.
+pub const OWN_READS: u8 = 3;
+
 /// The form of the record's kind, filled in, if the record can be read from it again: a field out
 /// of range cannot be named, and a field that the form does not use is lost.
 pub fn write(forms: &Forms, record: Record) -> Option<String> {

@@ -18,6 +18,7 @@ pub mod listing;
 pub mod lists;
 pub mod litmus_tests;
 pub mod litmus_text;
+pub mod origins;
 pub mod peer;
 pub mod record;
 pub mod reply;

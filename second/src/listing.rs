@@ -3,7 +3,7 @@
 use crate::calls::check;
 use crate::record::{PROCESSORS, REGISTERS};
 use crate::reply;
-use crate::run::CELLS;
+use crate::run::{CELLS, RESULT};
 use std::fs::File;
 use std::io::Read;
 use std::path::Path;
@@ -40,17 +40,18 @@ fn file(path: &Path) -> Result<Vec<u8>, &'static str> {
 }
 
 fn checked(table: &[u8], trace: &[u8]) -> String {
-    let mut room = [0; CELLS];
+    let mut room = [0; RESULT];
     let answer = check(table, trace, &mut room);
     if answer.number != reply::DONE {
         return format!("refused {} at {}\n", answer.number, answer.place);
     }
-    let (registers, memory) = room.split_at(PROCESSORS * REGISTERS);
+    let (cells, own_reads) = room.split_at(CELLS);
+    let (registers, memory) = cells.split_at(PROCESSORS * REGISTERS);
     let mut text = format!("finished {}\n", answer.place);
     for (processor, own) in registers.chunks(REGISTERS).enumerate() {
         text += &line(&format!("p{processor}"), own);
     }
-    text + &line("m", memory)
+    text + &line("m", memory) + &line("own", own_reads)
 }
 
 fn line(name: &str, values: &[u32]) -> String {
@@ -68,7 +69,11 @@ mod tests {
     const LINE_3: &str = "W0 x1, W1 y1, R0 y0, R1 x0, D0 x1";
     const LINE_1: &str = "W0 x1, W1 y1, R0 y0, R1 x0, D0 x1, D1 y1";
     const PRINTED: &str =
-        "finished 6\np0 0 0 0 0\np1 0 0 0 0\np2 0 0 0 0\np3 0 0 0 0\nm 1 1 0 0 0 0 0 0\n";
+        "finished 6\np0 0 0 0 0\np1 0 0 0 0\np2 0 0 0 0\np3 0 0 0 0\nm 1 1 0 0 0 0 0 0\nown 0\n";
+    const N6: &str = "p0 store x 1, p0 load EAX x, p0 load EBX y, p1 store y 2, p1 store x 2";
+    const LINE_6: &str = "W1 y2, W0 x1, R0 x1, R0 y0, W1 x2, D1 y2, D1 x2, D0 x1";
+    const PRINTED_6: &str =
+        "finished 8\np0 1 0 0 0\np1 0 0 0 0\np2 0 0 0 0\np3 0 0 0 0\nm 1 2 0 0 0 0 0 0\nown 1\n";
 
     #[test]
     fn what_it_prints() {
@@ -89,6 +94,10 @@ mod tests {
         assert_eq!(listing(&folder), "refused 2 at 0\n");
         put("table.rec", &table_bytes(SB).unwrap());
         assert_eq!(listing(&folder), PRINTED);
+        put("table.rec", &table_bytes(N6).unwrap());
+        put("trace.rec", &trace_bytes(LINE_6).unwrap());
+        assert_eq!(listing(&folder), PRINTED_6);
+        put("table.rec", &table_bytes(SB).unwrap());
         put("trace.rec", &trace_bytes(LINE_3).unwrap());
         assert_eq!(listing(&folder), "refused 12 at 5\n");
         fs::remove_dir_all(&folder).unwrap();

@@ -142,7 +142,7 @@ fn end_of_text(test: &Litmus) -> String {
     };
     let mut cells = Vec::new();
     for &(cell, value) in &test.condition {
-        let named = text::cell_text(cell, value);
+        let named = text::word_text(cell, value);
         let words: Vec<&str> = named.split(' ').collect();
         cells.push(match words[..] {
             [processor, register, value] => format!("{}:{register}={value}", &processor[1..]),
@@ -278,7 +278,7 @@ mod tests {
     #[test]
     fn a_wrong_verdict_or_trace_is_found() {
         let text = "case SB
-            check room 24
+            check room 25
             table
               p0 store x 1, p0 load EAX y, p1 store y 1, p1 load EBX x
             allow p0 EAX 0, p1 EBX 0
@@ -311,7 +311,7 @@ mod tests {
     #[test]
     fn a_trace_that_is_refused_too_early_is_found() {
         let text = "case MP
-            check room 24
+            check room 25
             table
               p0 store x 1, p0 store y 1, p1 load EAX y, p1 load EBX x
             forbid p1 EAX 1, p1 EBX 0

@@ -33,7 +33,7 @@ const USAGE: &str = "usage: second COMMAND ..
   answer                          answers cases as the proved program `cases` does
   list FOLDER                     what the listing program prints
   records FOLDER                  table.txt becomes table.rec and, if it is there, trace.txt trace.rec
-  text FOLDER                     prints table.rec and trace.rec as text
+  text FOLDER                     prints table.rec and trace.rec as text, and which reads the own buffer served
 ";
 
 fn main() -> ExitCode {

@@ -7,8 +7,19 @@ use crate::record::{processors, Record, LOCATIONS, PROCESSORS, REGISTERS};
 use crate::reply;
 use crate::table::Table;
 
-/// Words of a result: all registers, then memory.
+/// All registers, then memory: an outcome.
 pub const CELLS: usize = PROCESSORS * REGISTERS + LOCATIONS;
+
+/// Words of a result: the cells, then the number of reads served from own buffers.
+pub const RESULT: usize = CELLS + 1;
+
+/// Where a read gets its value.
+#[derive(Clone, Copy, Debug, PartialEq, Eq)]
+pub enum Origin {
+    Memory,
+    /// The own waiting write at this position, counted from the oldest, from 0.
+    Waiting(usize),
+}
 
 #[derive(Clone, Debug)]
 pub struct Run<'t> {
@@ -135,6 +146,36 @@ impl<'t> Run<'t> {
         cells
     }
 
+    /// The words of a result.
+    pub fn result(&self) -> [u32; RESULT] {
+        let mut result = [0; RESULT];
+        result[..CELLS].copy_from_slice(&self.cells());
+        result[CELLS] = self.own_reads();
+        result
+    }
+
+    /// How many reads of the history were served from own buffers.
+    fn own_reads(&self) -> u32 {
+        let own = |origin: &Option<Origin>| matches!(origin, Some(Origin::Waiting(_)));
+        self.origins().into_iter().filter(own).count() as u32
+    }
+
+    /// Where each read of the history got its value, by the steps before it; none for a step of
+    /// another kind.
+    pub fn origins(&self) -> Vec<Option<Origin>> {
+        let origin = |(place, step): (usize, &Record)| {
+            let origin = || self.before(place).origin(step.processor, step.location);
+            Step::Read.is(step).then(origin)
+        };
+        self.steps.iter().enumerate().map(origin).collect()
+    }
+
+    /// The run before a step of its history.
+    fn before(&self, place: usize) -> Run<'t> {
+        let steps = self.steps[..place].to_vec();
+        Run { steps, ..*self }
+    }
+
     /// The processor's write steps, without as many of the oldest as it has drains.
     fn waiting_writes(&self, processor: u8) -> impl Iterator<Item = &Record> {
         let own = move |kind: Step| {
@@ -163,8 +204,8 @@ impl<'t> Run<'t> {
         program.map_or(&[], Vec::as_slice)
     }
 
-    /// The program steps that are left.
-    fn ahead(&self, processor: u8) -> &'t [(Record, Step)] {
+    /// The program steps that are left, each with its instruction.
+    pub fn ahead(&self, processor: u8) -> &'t [(Record, Step)] {
         let done = self.done(processor).count();
         self.program(processor).get(done..).unwrap_or(&[])
     }
@@ -183,12 +224,21 @@ impl<'t> Run<'t> {
         Some(step.by(processor, location, value))
     }
 
-    /// What a read sees: the newest own waiting write to the location, or memory.
+    /// What a read sees.
     fn seen(&self, processor: u8, location: u8) -> u32 {
-        let to_it = |write: &&Record| write.location == location;
-        match self.waiting_writes(processor).filter(to_it).last() {
-            Some(write) => write.value,
-            None => self.memory(location),
+        match self.origin(processor, location) {
+            Origin::Memory => self.memory(location),
+            Origin::Waiting(position) => self.waiting(processor)[position].1,
+        }
+    }
+
+    /// Where a read gets its value: from the newest own waiting write to the location, or memory.
+    pub fn origin(&self, processor: u8, location: u8) -> Origin {
+        let to_it = |(_, write): &(usize, &Record)| write.location == location;
+        let waiting = self.waiting_writes(processor).enumerate();
+        match waiting.filter(to_it).last() {
+            Some((position, _)) => Origin::Waiting(position),
+            None => Origin::Memory,
         }
     }
 

@@ -2,8 +2,9 @@
 
 use crate::case::{words, Answer, Call, Case, WORD};
 use crate::escapes::escaped;
+use crate::origins;
 use crate::reply::{self, Reply};
-use crate::run::CELLS;
+use crate::run::RESULT;
 use crate::stated::{bytes_of_records, marks};
 use crate::text;
 
@@ -24,7 +25,7 @@ pub fn show(case: &Case) -> String {
         Call::Litmus => text + &part("text", &quoted(&case.table)),
         Call::Check | Call::Finish => {
             text += &part("table", &text::table_text(&case.table));
-            text + &part("trace", &text::trace_text(&case.trace))
+            text + &part("trace", &origins::trace_text(&case.table, &case.trace))
         }
     }
 }
@@ -48,8 +49,8 @@ pub fn show_answer(case: &Case, answer: &Answer) -> String {
     let Reply { number, place } = answer.reply;
     let (text, written) = match (number, case.call) {
         (reply::DONE, Call::Check) => {
-            let cells = cells_shown(&answer.room);
-            (format!("finished {place}: {cells}"), CELLS * WORD)
+            let result = result_shown(&answer.room);
+            (format!("finished {place}: {result}"), RESULT * WORD)
         }
         (reply::DONE, Call::Finish) => written(place, &answer.room, text::trace_text),
         (reply::DONE, Call::Litmus) => written(place, &answer.room, text::table_text),
@@ -67,10 +68,10 @@ fn written(count: u64, room: &[u8], text: fn(&[u8]) -> String) -> (String, usize
     (format!("written {count}: {records}"), bytes)
 }
 
-fn cells_shown(room: &[u8]) -> String {
-    let cells = words(room).into_iter().take(CELLS).enumerate();
-    let not_zero = cells.filter(|&(_, value)| value != 0);
-    let named = not_zero.map(|(cell, value)| text::cell_text(cell, value));
+fn result_shown(room: &[u8]) -> String {
+    let words = words(room).into_iter().take(RESULT).enumerate();
+    let not_zero = words.filter(|&(_, value)| value != 0);
+    let named = not_zero.map(|(word, value)| text::word_text(word, value));
     named.collect::<Vec<_>>().join(", ")
 }
 
@@ -96,13 +97,13 @@ mod tests {
 
     const FILE: &str = "
 case
-check room 25
+check room 26
 table
   p0 store x 1
-  p0 load EAX y
+  p0 load EAX x
 trace
-  W0 x1, R0 y0, D0 x1
-gives finished 3: x 1, p3 EDX 7
+  W0 x1, R0 x1, D0 x1
+gives finished 3: x 1, p3 EDX 7, own 1
 case
 finish room 17
 room
@@ -146,13 +147,14 @@ gives refused 19 at 0
     fn an_odd_answer_is_shown() {
         let cases = read_cases(FILE).unwrap();
         let (case, mut answer) = (&cases[0].case, cases[0].gives.clone());
-        answer.room[96] = 0;
+        answer.room[100] = 0;
         let found = show_answer(case, &answer);
-        let but = "# but bytes 96 to 96 of the room are 00, not ab\n";
-        assert_eq!(found, format!("gives finished 3: p3 EDX 7, x 1\n{but}"));
+        let but = "# but bytes 100 to 100 of the room are 00, not c7\n";
+        let words = "p3 EDX 7, x 1, own 1";
+        assert_eq!(found, format!("gives finished 3: {words}\n{but}"));
         answer.reply = Reply::new(reply::BUFFER_NOT_EMPTY, 2);
         assert!(
-            show_answer(case, &answer).starts_with("gives refused 17 at 2\n# but bytes 0 to 96")
+            show_answer(case, &answer).starts_with("gives refused 17 at 2\n# but bytes 0 to 100")
         );
         answer.reply = Reply {
             number: reply::DONE,

@@ -2,7 +2,7 @@
 //!
 //! ```text
 //! case a store and its drain
-//! check room 24                   # or: finish room 2560
+//! check room 25                   # or: finish room 2560
 //! table
 //!   p0 store x 1
 //! trace
@@ -23,14 +23,15 @@
 //! gives written 1: init x 1       # or: gives refused 19 at 4
 //! ```
 //!
-//! The room is words for checking and bytes for the others. It is filled with marks, or with the
-//! bytes of a part `room` of the case. What the answer does not speak of keeps its contents.
+//! A finished check names the words of its result that are not 0, the number of own-buffer reads as
+//! `own 1`. The room is words for checking and bytes for the others. It is filled with marks, or
+//! with the bytes of a part `room` of the case. What the answer does not speak of keeps its contents.
 
 use crate::case::{bytes_of_words, Answer, Call, Case};
 use crate::escapes::unescaped;
 use crate::record::Record;
 use crate::reply::{self, Reply};
-use crate::run::CELLS;
+use crate::run::RESULT;
 use crate::text::{self, Wrong};
 
 /// A case with the answer that its text states.
@@ -208,7 +209,7 @@ fn gives(part: &Part, case: &Case) -> Result<Answer, Wrong> {
     let (head, list) = part.text.split_once(':').unwrap_or((&part.text, ""));
     let words: Vec<&str> = head.split_whitespace().collect();
     let (number, place, written) = match (&words[..], case.call) {
-        (["finished", steps], Call::Check) => ("0", steps, text::cells(list).map(result)),
+        (["finished", steps], Call::Check) => ("0", steps, text::result(list).map(result)),
         (["written", k], Call::Finish) => ("0", k, text::trace_bytes(list)),
         (["written", count], Call::Litmus) => ("0", count, text::table_bytes(list)),
         (["refused", number, "at", place], _) if list.is_empty() => (*number, place, Ok(vec![])),
@@ -232,11 +233,11 @@ fn gives(part: &Part, case: &Case) -> Result<Answer, Wrong> {
     Ok(Answer { reply, room })
 }
 
-// The words of a result in which all other cells are 0, as bytes.
-fn result(cells: Vec<(usize, u32)>) -> Vec<u8> {
-    let mut words = [0; CELLS];
-    for (cell, value) in cells {
-        words[cell] = value;
+// The words of a result in which all others are 0, as bytes.
+fn result(named: Vec<(usize, u32)>) -> Vec<u8> {
+    let mut words = [0; RESULT];
+    for (word, value) in named {
+        words[word] = value;
     }
     bytes_of_words(&words)
 }
@@ -251,14 +252,14 @@ mod tests {
 
     const FILE: &str = "
 case 1, the line of the sheet   # a comment
-check room 25
+check room 26
 table
   p0 store x 1
   p0 load EAX y
 trace
   W0 x1, R0 y0
   D0 x1
-gives finished 3: x 1, p3 EDX 7
+gives finished 3: x 1, own 2, p3 EDX 7
 
 case
 finish room 17
@@ -295,8 +296,9 @@ gives written 1: init x 4294967295
             ("a text", 27),
         ];
         assert_eq!(names, expected.map(|(name, line)| (name.to_string(), line)));
-        let mut words = [0; CELLS + 1];
-        (words[15], words[16], words[24]) = (7, 1, u32::from_le_bytes([171, 178, 185, 192]));
+        let mut words = [0; RESULT + 1];
+        (words[15], words[16], words[24]) = (7, 1, 2);
+        words[25] = u32::from_le_bytes([199, 206, 213, 220]);
         assert_eq!(cases[0].gives.room, bytes_of_words(&words));
         assert_eq!(cases[1].gives.room[8..], [3, 0, 0, 0, 1, 0, 0, 0, 113]);
         assert_eq!(cases[1].gives, cases[1].case.answer());
@@ -318,12 +320,16 @@ gives written 1: init x 4294967295
         assert_eq!(wrong("D0 x1", "D0"), "line 9: the line ends early");
         assert_eq!(wrong("p3 EDX", "p4 EDX"), "line 10: no such processor: 4");
         assert_eq!(
-            wrong("check room 25", ""),
+            wrong("own 2", "own x"),
+            "line 10: a value is 0 to 4294967295"
+        );
+        assert_eq!(
+            wrong("check room 26", ""),
             "line 2: no check or finish or litmus"
         );
         assert_eq!(wrong("case\n", "\n"), "line 13: a second finish");
         assert_eq!(
-            wrong("room 25", "room 23"),
+            wrong("room 26", "room 24"),
             "line 10: the room is too small"
         );
         assert_eq!(
@@ -336,7 +342,7 @@ gives written 1: init x 4294967295
             "line 22: a byte is two hexadecimal digits, not fg"
         );
         assert_eq!(
-            wrong("room 25", "room 262145"),
+            wrong("room 26", "room 262145"),
             "line 3: a room has at most 1048576 bytes"
         );
         assert_eq!(

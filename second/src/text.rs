@@ -49,40 +49,51 @@ pub fn trace_bytes(text: &str) -> Result<Vec<u8>, Wrong> {
     read(forms::TRACE, text)
 }
 
-/// Cells of a result by their names, as `x 1` or `p0 EAX 1`: the number of each, and its value.
+/// Cells by their names, as `x 1` or `p0 EAX 1`: the number of each, and its value.
 pub fn cells(text: &str) -> Result<Vec<(usize, u32)>, Wrong> {
-    let mut cells: Vec<(usize, u32)> = Vec::new();
+    named(forms::CELLS, text)
+}
+
+/// Words of a result by their names, those of the cells or `own 1`: the number of each, and its
+/// value.
+pub fn result(text: &str) -> Result<Vec<(usize, u32)>, Wrong> {
+    named(forms::RESULT, text)
+}
+
+fn named(forms: &Forms, text: &str) -> Result<Vec<(usize, u32)>, Wrong> {
+    let mut all: Vec<(usize, u32)> = Vec::new();
     let of_line = |(line, text)| parts(text).map(move |words| (line, words));
     for (line, words) in (1..).zip(text.lines()).flat_map(of_line) {
         let wrong = |why: &str| Wrong::new(line, why);
-        let named = forms::read(forms::CELLS, &words.join(" ")).map_err(|why| wrong(&why))?;
-        let cell = Record { value: 0, ..named };
-        let number = cells_in_order().position(|other| other == cell);
+        let named = forms::read(forms, &words.join(" ")).map_err(|why| wrong(&why))?;
+        let word = Record { value: 0, ..named };
+        let number = result_in_order().position(|other| other == word);
         let number = number.ok_or_else(|| wrong("no such cell"))?;
-        if cells.iter().any(|&(other, _)| other == number) {
-            return Err(wrong("the same cell twice"));
+        if all.iter().any(|&(other, _)| other == number) {
+            return Err(wrong("the same name twice"));
         }
-        cells.push((number, named.value));
+        all.push((number, named.value));
     }
-    Ok(cells)
+    Ok(all)
 }
 
-pub fn cell_text(number: usize, value: u32) -> String {
-    let cell = cells_in_order().nth(number);
-    let text = cell.and_then(|cell| forms::write(forms::CELLS, Record { value, ..cell }));
+/// A word of a result by its name.
+pub fn word_text(number: usize, value: u32) -> String {
+    let word = result_in_order().nth(number);
+    let text = word.and_then(|word| forms::write(forms::RESULT, Record { value, ..word }));
     text.unwrap_or_default()
 }
 
-// The cells of a result in their order, each as an initial record of the value 0.
-fn cells_in_order() -> impl Iterator<Item = Record> {
+// The words of a result in their order, each as a record of the value 0: a cell as an initial one.
+fn result_in_order() -> impl Iterator<Item = Record> {
     let registers = record::processors().flat_map(|processor| {
         let of_processor = 0..record::REGISTERS as u8;
         of_processor.map(move |register| [kinds::INITIAL_REGISTER, processor, register, 0])
     });
     let locations = 0..record::LOCATIONS as u8;
     let memory = locations.map(|location| [kinds::INITIAL_MEMORY, 0, 0, location]);
-    let cells = registers.chain(memory);
-    cells.map(|[kind, processor, register, location]| Record {
+    let words = registers.chain(memory).chain([[forms::OWN_READS, 0, 0, 0]]);
+    words.map(|[kind, processor, register, location]| Record {
         kind,
         processor,
         register,
@@ -262,9 +273,11 @@ mod tests {
             wrong("bytes 01\np0 fence"),
             "line 2: fewer than 8 bytes stand at the end only"
         );
+        assert_eq!(cells("own 1").unwrap_err().why, "no such location: own");
+        assert_eq!(result("own 1, x 2"), Ok(vec![(24, 1), (16, 2)]));
         assert_eq!(
             cells("x 1, y 1\nx 1").unwrap_err().to_string(),
-            "line 2: the same cell twice"
+            "line 2: the same name twice"
         );
         assert_eq!(
             wrong("2 times bytes 01"),

@@ -5,7 +5,7 @@ use second::dice::Dice;
 use second::kinds::Step;
 use second::record::{bytes, processors, Record};
 use second::reply::{self, Reply};
-use second::run::{Run, CELLS};
+use second::run::{Origin, Run, CELLS, RESULT};
 use second::table::{self, Table};
 use second::text::table_bytes;
 use std::collections::BTreeSet;
@@ -42,7 +42,7 @@ fn finishes(table: &[u8], run: &Run, steps: usize) {
     );
     let whole = [trace, room].concat();
     assert_eq!(
-        check(table, &whole, &mut [77; CELLS]),
+        check(table, &whole, &mut [77; RESULT]),
         Reply::new(reply::DONE, steps)
     );
     assert_eq!(run.steps().len() + run.left(), steps);
@@ -81,6 +81,42 @@ fn each_step_lowers_k_by_one_and_can_be_taken_back() {
             wander(&mut run, dice);
         }
     }
+}
+
+/// What a read takes: the newest own waiting write to its location, by a look at what waits.
+fn served_by(run: &Run, read: Record) -> Origin {
+    let waiting = run.waiting(read.processor);
+    let newest = (0..waiting.len()).rfind(|&position| waiting[position].0 == read.location);
+    if let Some(position) = newest {
+        assert_eq!(waiting[position].1, read.value);
+    }
+    newest.map_or(Origin::Memory, Origin::Waiting)
+}
+
+/// How many reads of a walk its own buffers serve, by a look before each.
+fn counted_walk(table: &Table, dice: &mut Dice) -> u32 {
+    let (mut run, mut own) = (Run::new(table), 0);
+    while !run.finished() {
+        let step = dice.pick(&run.moves());
+        if Step::Read.is(&step) {
+            let origin = served_by(&run, step);
+            assert_eq!(run.origin(step.processor, step.location), origin);
+            own += u32::from(origin != Origin::Memory);
+        }
+        run.take(step);
+        assert_eq!(run.result()[CELLS], own);
+    }
+    own
+}
+
+#[test]
+fn own_buffer_reads_are_counted_as_they_come() {
+    let dice = &mut Dice::new(1, 7);
+    let mut seen = BTreeSet::new();
+    for (_, table) in tables() {
+        seen.extend((0..50).map(|_| counted_walk(&table, dice)));
+    }
+    assert!((0..3).all(|own| seen.contains(&own)), "{seen:?}");
 }
 
 /// All well-formed steps with a value below the limit.
@@ -146,7 +182,7 @@ fn any_bytes_get_an_answer() {
     let mut seen = BTreeSet::new();
     for _ in 0..20_000 {
         let (table, trace) = (noise(dice, 12), noise(dice, 8));
-        let mut room = vec![7; dice.below(2 * CELLS)];
+        let mut room = vec![7; dice.below(2 * RESULT)];
         let checked = check(&table, &trace, &mut room);
         seen.insert(checked.number);
         assert!(checked.number == reply::DONE || room.iter().all(|&word| word == 7));

@@ -98,9 +98,13 @@ static void table_refusals(void)
 /* Two locked exchange-and-adds on x. */
 #define TWO_LOCKED \
     FILE_OF(RECORD(AMBERCELL_LOCKED_EXCHANGE_ADD, 0, EAX, X, 0), RECORD(AMBERCELL_LOCKED_EXCHANGE_ADD, 1, EAX, X, 0))
+#define N6 \
+    FILE_OF(RECORD(AMBERCELL_STORE, 0, 0, X, 1), RECORD(AMBERCELL_LOAD, 0, EAX, X, 0), RECORD(AMBERCELL_LOAD, 0, EBX, Y, 0), \
+            RECORD(AMBERCELL_STORE, 1, 0, Y, 2), RECORD(AMBERCELL_STORE, 1, 0, X, 2))
 #define LINE_1 FILE_OF(W(0, X, 1), W(1, Y, 1), R(0, Y, 0), R(1, X, 0), D(0, X, 1), D(1, Y, 1))
 #define LINE_2 FILE_OF(W(0, X, 1), W(1, Y, 1), R(0, Y, 1), R(1, X, 0), D(0, X, 1), D(1, Y, 1))
 #define LINE_3 FILE_OF(W(0, X, 1), W(1, Y, 1), R(0, Y, 0), R(1, X, 0), D(0, X, 1))
+#define LINE_6 FILE_OF(W(1, Y, 2), W(0, X, 1), R(0, X, 1), R(0, Y, 0), W(1, X, 2), D(1, Y, 2), D(1, X, 2), D(0, X, 1))
 #define LINE_4 FILE_OF(W(0, X, 1), D(0, X, 1), R(0, Y, 0), W(1, Y, 1), D(1, Y, 1), R(1, X, 1))
 
 static void trace_refusals(void)
@@ -125,15 +129,18 @@ static void checks(void)
 {
     const uint32_t line_1[WORDS] = {[16 + X] = 1, [16 + Y] = 1};
     const uint32_t line_4[WORDS] = {[4 + EBX] = 1, [16 + X] = 1, [16 + Y] = 1};
+    /* its read of x is served by its own waiting write */
+    const uint32_t line_6[WORDS] = {[0 + EAX] = 1, [16 + X] = 1, [16 + Y] = 2, [AMBERCELL_OUTCOME_WORDS] = 1};
     const uint32_t zeros[WORDS] = {0};
 
-    check("line 1 in no room", SB, LINE_1, 0, AMBERCELL_ROOM_TOO_SMALL, 24, NULL);
-    check("line 1 in 23 words", SB, LINE_1, 23, AMBERCELL_ROOM_TOO_SMALL, 24, NULL);
-    check("line 1 in 24 words", SB, LINE_1, 24, AMBERCELL_DONE, 6, line_1);
+    check("line 1 in no room", SB, LINE_1, 0, AMBERCELL_ROOM_TOO_SMALL, 25, NULL);
+    check("line 1 in 24 words", SB, LINE_1, 24, AMBERCELL_ROOM_TOO_SMALL, 25, NULL);
     check("line 1 in 25 words", SB, LINE_1, 25, AMBERCELL_DONE, 6, line_1);
+    check("line 1 in 26 words", SB, LINE_1, 26, AMBERCELL_DONE, 6, line_1);
+    check("line 6", N6, LINE_6, WORDS, AMBERCELL_DONE, 8, line_6);
     check("line 4", SB, LINE_4, WORDS, AMBERCELL_DONE, 6, line_4);
     check("nothing", NONE, NONE, WORDS, AMBERCELL_DONE, 0, zeros);
-    check("nothing in no room", NONE, NONE, 0, AMBERCELL_ROOM_TOO_SMALL, 24, NULL);
+    check("nothing in no room", NONE, NONE, 0, AMBERCELL_ROOM_TOO_SMALL, 25, NULL);
 }
 
 static void finishes(void)
@@ -192,6 +199,8 @@ static void longest(void)
         memcpy(steps + 40 * i, FILE_OF(L(p), R(p, X, 0), W(p, X, 0), D(p, X, 0), U(p)).bytes, 40);
     }
     file table = {bytes, sizeof bytes}, trace = {steps, sizeof steps};
+    /* its read of x is served by its own waiting write */
+    const uint32_t line_6[WORDS] = {[0 + EAX] = 1, [16 + X] = 1, [16 + Y] = 2, [AMBERCELL_OUTCOME_WORDS] = 1};
     const uint32_t zeros[WORDS] = {0};
 
     finish("longest in a byte less", table, NONE, BYTES - 1, AMBERCELL_ROOM_TOO_SMALL, BYTES, NONE);

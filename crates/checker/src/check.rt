@@ -8,7 +8,8 @@ use model::answer::Answer;
 use table::in_place;
 use trace::follow;
 
-// Any table, any trace, any room. On 0 the first Cells::WORDS words of the room are the registers and memory at the end, and the others are kept; on any other number all are kept.
+// Any table, any trace, any room. On 0 the first Answer::WORDS words of the room are the registers and memory at the end, and how many reads own buffers served; the others are kept.
+// On any other number all are kept.
 pub fn check(table: &[u8], trace: &[u8], room: &mut [u32]) -> Answer
     ensures { λ r. ⌜ replyOf r (now (room .exit)) ≡ checked (now (table .entry)) (now (trace .entry)) (now (room .entry)) ⌝ }
 {

@@ -1,15 +1,12 @@
 // The reply to a check, from a program and a machine where they lie.
 ghost use mathlib.Core.Path.{_≡_};
-ghost use Prim.Native.Nat.{_≤_};
-ghost use lib.ListN.{length};
 ghost use Rattle.model.specs.Calls.{replied, checkedAt};
 ghost use Rattle.model.specs.Code.{testedOf};
 ghost use Rattle.model.specs.Reply.{replyOf};
-ghost use Rattle.model.specs.Sizes.{resultWords};
 ghost use Rattle.machine_state.specs.Packed.{stateOf, columnsOf};
-ghost use Rattle.machine.specs.View.{machineOf};
+ghost use Rattle.machine.specs.View.{reachedOf};
 ghost use Rattle.machine.specs.Ready.{Ready};
-ghost use Rattle.checker_report.specs.Reports.{repliedIn};
+ghost use Rattle.checker_report.specs.Reports.{Reportable, repliedIn};
 use crate::report;
 use machine_state::state::Machine;
 use model::answer::Answer;
@@ -26,7 +23,7 @@ fn reply_parts<'a>(
     trace: &[u8],
     room: &mut [u32],
 ) -> Answer
-    requires { ⌜ resultWords ≤ length (now cells) ⌝ }
+    requires { ⌜ Reportable (now cells) (now marks) ⌝ }
     ensures { λ r. ⌜ replyOf r (now (room .exit))
         ≡ repliedIn (now (codes .entry)) (now (cells .entry)) (now (marks .entry)) end (now (trace .entry)) (now (room .entry)) ⌝ }
 {
@@ -46,7 +43,7 @@ pub fn reply_in_place(
 ) -> Answer
     requires { ⌜ Ready (columnsOf (now program)) (stateOf (now m)) ⌝ }
     ensures { λ r. ⌜ replyOf r (now (room .exit)) ≡ replied (now (room .entry))
-        (testedOf end (machineOf (columnsOf (now (program .entry))) (stateOf (now (m .entry)))))
+        (testedOf end (reachedOf (columnsOf (now (program .entry))) (stateOf (now (m .entry)))))
         (checkedAt (now (trace .entry)) (now (room .entry))) ⌝ }
 {
     reply_parts(&program.codes, &m.marks, &m.cells, end, trace, room)

@@ -4,7 +4,7 @@ ghost use mathlib.Core.List.{_++_};
 ghost use Prim.Native.Nat.{_≤_};
 ghost use lib.ListN.{length, drop};
 ghost use Rattle.model.specs.Reply.{replyOf};
-ghost use Rattle.checker_report.specs.Reports.{reportedIn};
+ghost use Rattle.checker_report.specs.Reports.{Reportable, reportedIn};
 use machine_state::state::Machine;
 use model::answer::Answer;
 use model::answer::Refusal;
@@ -31,17 +31,18 @@ pub fn report(
     steps: usize,
     room: &mut [u32],
 ) -> Answer
-    requires { do ⌜ (← ⟦Cells::WORDS⟧) ≤ length (now cells) ⌝ }
+    requires { ⌜ Reportable (now cells) (now marks) ⌝ }
     ensures { λ r. ⌜ replyOf r (now (room .exit))
         ≡ reportedIn (now (codes .entry)) (now (cells .entry)) (now (marks .entry)) steps (now (room .entry)) ⌝ }
 {
     if !machine_state::finished::is_finished(codes, marks) {
         return Answer::Refused(Refusal::Unfinished, steps);
     }
-    if room.len() < Cells::WORDS {
-        return Answer::Refused(Refusal::RoomTooSmall, Cells::WORDS);
+    if room.len() < Answer::WORDS {
+        return Answer::Refused(Refusal::RoomTooSmall, Answer::WORDS);
     }
     let all = &cells[..];
-    copy(&all[..Cells::WORDS], room);
+    copy(&all[..Cells::ALL], room);
+    room[Cells::ALL] = marks[Machine::OWN] as u32;
     Answer::Done(steps)
 }

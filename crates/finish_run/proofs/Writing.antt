@@ -21,7 +21,7 @@ use Rattle.model.proofs.Completion.{completion-next, completion-none}
 use Rattle.record.specs.Bytes.{withRecord}
 use Rattle.record.proofs.Stores.{file-more, one-more}
 use Rattle.machine_state.specs.State.{State}
-use Rattle.machine.specs.View.{machineOf}
+use Rattle.machine.specs.View.{machineOf, reachedOf}
 use Rattle.finish_step.specs.Finishing.{Underway, HasMore, FinishesBy}
 use Rattle.finish_run.specs.Completing.{Completable, completedIn}
 
@@ -93,10 +93,10 @@ module _ (g : Columns) (m : State) (room : List ℕ) (k : ℕ) (steps : k ≡ le
   abbrev file : List ℕ
   file = fileOf (completion (machineOf g m))
 
-  pub too-small : length room < recordSize * k → refuse 13 (recordSize * k) room ≡ completedAt room (machineOf g m)
+  pub too-small : length room < recordSize * k → refuse 13 (recordSize * k) room ≡ completedAt room (reachedOf g m)
   unfolding completedAt
   too-small l = sym (written-not k (recordSize * k) file room l) ∙ ap (λ (n : ℕ). written n (recordSize * n) file room) steps
 
-  pub completes : recordSize * k ≤ length room → (after : List ℕ) → after ≡ completedIn g m k room → done k after ≡ completedAt room (machineOf g m)
+  pub completes : recordSize * k ≤ length room → (after : List ℕ) → after ≡ completedIn g m k room → done k after ≡ completedAt room (reachedOf g m)
   unfolding completedAt completedIn
   completes l after e = ap (done k) e ∙ sym (written-fits k (recordSize * k) file room l) ∙ ap (λ (n : ℕ). written n (recordSize * n) file room) steps

@@ -3,7 +3,7 @@ ghost use mathlib.Core.Path.{_≡_};
 ghost use Rattle.model.specs.Calls.{completedAt};
 ghost use Rattle.model.specs.Reply.{replyOf};
 ghost use Rattle.machine_state.specs.Packed.{stateIn, columnsIn};
-ghost use Rattle.machine.specs.View.{machineOf};
+ghost use Rattle.machine.specs.View.{reachedOf};
 ghost use Rattle.finish_step.specs.Finishing.{Underway};
 ghost use Rattle.finish_run.specs.Completing.{Completable, completedIn};
 use finish_left::left;
@@ -50,7 +50,7 @@ pub fn complete<'a>(
     room: &mut [u8],
 ) -> Answer
     requires { ⌜ Underway (columnsIn (now codes) (now constants)) (stateIn (now cells) (now locations) (now values) (now marks)) ⌝ }
-    ensures { λ r. ⌜ replyOf r (now (room .exit)) ≡ completedAt (now (room .entry)) (machineOf (columnsIn (now (codes .entry)) (now (constants .entry)))
+    ensures { λ r. ⌜ replyOf r (now (room .exit)) ≡ completedAt (now (room .entry)) (reachedOf (columnsIn (now (codes .entry)) (now (constants .entry)))
         (stateIn (now (cells .entry)) (now (locations .entry)) (now (values .entry)) (now (marks .entry)))) ⌝ }
 {
     let k = left::left(codes, marks);

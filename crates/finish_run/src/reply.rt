@@ -5,7 +5,7 @@ ghost use Rattle.model.specs.Calls.{replied, completedAt};
 ghost use Rattle.model.specs.Code.{testedOf};
 ghost use Rattle.model.specs.Reply.{replyOf};
 ghost use Rattle.machine_state.specs.Packed.{stateIn, columnsIn, stateOf, columnsOf};
-ghost use Rattle.machine.specs.View.{machineOf};
+ghost use Rattle.machine.specs.View.{reachedOf};
 ghost use Rattle.finish_step.specs.Finishing.{Underway};
 use crate::complete;
 use machine_state::state::Machine;
@@ -26,7 +26,7 @@ fn finish_parts<'a>(
 ) -> Answer
     requires { ⌜ (end ≡ Passed → Underway (columnsIn (now codes) (now constants)) (stateIn (now cells) (now locations) (now values) (now marks))) ⌝ }
     ensures { λ r. ⌜ replyOf r (now (room .exit)) ≡ replied (now (room .entry))
-        (testedOf end (machineOf (columnsIn (now (codes .entry)) (now (constants .entry)))
+        (testedOf end (reachedOf (columnsIn (now (codes .entry)) (now (constants .entry)))
         (stateIn (now (cells .entry)) (now (locations .entry)) (now (values .entry)) (now (marks .entry)))))
         (completedAt (now (room .entry))) ⌝ }
 {
@@ -42,7 +42,7 @@ fn finish_parts<'a>(
 pub fn finish_in_place(program: &Program, m: &mut Machine, end: Verdict, room: &mut [u8]) -> Answer
     requires { ⌜ (end ≡ Passed → Underway (columnsOf (now program)) (stateOf (now m))) ⌝ }
     ensures { λ r. ⌜ replyOf r (now (room .exit)) ≡ replied (now (room .entry))
-        (testedOf end (machineOf (columnsOf (now (program .entry))) (stateOf (now (m .entry)))))
+        (testedOf end (reachedOf (columnsOf (now (program .entry))) (stateOf (now (m .entry)))))
         (completedAt (now (room .entry))) ⌝ }
 {
     finish_parts(

@@ -2,29 +2,30 @@
 use mathlib.Core.Path.{_≡_, refl, sym, ap, _∙_}
 use mathlib.Core.List.{List, [], _∷_}
 use Prim.Native.Nat.{ℕ, zero, suc, _<_}
+use native.Mathlib.Omega.{arith}
 use lib.ListN.{getD, set}
 use borrow.Author.Tests.{ne-eqb}
+use Rattle.model.specs.declared.origin.Origin.the-variants.{Memory}
 use Rattle.model.specs.declared.record.Record.{Record}
 use Rattle.model.specs.Code.{placeAt, registerOf, actsOf}
 use Rattle.model.specs.Machine.{WaitingWrite}
 use Rattle.model.specs.Rules.{Event, event}
-use Rattle.model.specs.Step.{newest}
+use Rattle.model.specs.Step.{originIn, seenIn}
 use Rattle.machine_rules.specs.Guards.{nobody}
 use Rattle.machine_rules.specs.Offers.{waitingFrom, nextIn}
 use Rattle.machine_rules.proofs.Lookup.{part-none}
 use Rattle.machine_state.specs.State.{State}
-use Rattle.machine_state.specs.Packed.{memoryAt, keptAt, holderAt, drainedAt, issuedIn, drainedIn, stateIn}
+use Rattle.machine_state.specs.Packed.{memoryAt, keptAt, holderAt, drainedAt, memoryIn, issuedIn, drainedIn, stateIn}
 use Rattle.machine_state.proofs.Rows as rows
 use Rattle.machine_store.specs.Stores.{received, exchanged, nextPlace, oneMoreIssued, oneMoreDrained}
-use Rattle.machine.specs.Stores.{carriedOut}
+use Rattle.machine.specs.View.{waitingIn}
+use Rattle.machine.specs.Stores.{receivedIn, countedIn, carriedOut}
 use Rattle.machine.proofs.Stored as stored
 use Rattle.finish_step.specs.Moves.{MayDrainOldest, DrainsOldest, MayCarryOut, CarriesOut}
 
--- where nothing waits
-sees-memory : (locations values : List ℕ) (n d p x memory : ℕ) → d ≡ n → newest (waitingFrom locations values n d p) x memory ≡ memory
-unfolding newest
-sees-memory locations values n d p x memory e =
-    ap (λ (d : ℕ). newest (waitingFrom locations values n d p) x memory) e ∙ ap (λ (ws : List WaitingWrite). newest ws x memory) (part-none (placeAt p n) locations values)
+-- where nothing waits, memory is read
+waits-none : (locations values : List ℕ) (n d p : ℕ) → d ≡ n → waitingFrom locations values n d p ≡ []
+waits-none locations values n d p e = ap (λ (d : ℕ). waitingFrom locations values n d p) e ∙ part-none (placeAt p n) locations values
 
 -- another kind than read, write, lock, unlock, local
 else : {A : Type 0} (m a b c d e : A) (k : ℕ) → ¬ (k ≡ 1) → ¬ (k ≡ 2) → ¬ (k ≡ 5) → ¬ (k ≡ 6) → ¬ (k ≡ 7) → m ≡ getD (m ∷ a ∷ b ∷ m ∷ m ∷ c ∷ d ∷ e ∷ []) k m
@@ -67,13 +68,18 @@ module _ (cells locations values marks : List ℕ) where
     h : q < 4
     h = asks .own .processor
 
+    dry : getD (drainedIn marks) q 0 ≡ getD (issuedIn marks) q 0
+    dry = rows.drained-is marks q h ∙ asks .dry ∙ sym (rows.issued-is marks q h)
+
+    none : waitingFrom locations values (getD (issuedIn marks) q 0) (getD (drainedIn marks) q 0) q ≡ []
+    none = waits-none locations values _ _ q dry
+
     pub read-carried : let v = getD cells (memoryAt x) 0 in CarriesOut m i 1 (event 1 q x v) (stateIn (received cells (i .kind) q (registerOf i) v) locations values marks)
-    unfolding nextIn carriedOut stateIn
+    unfolding nextIn carriedOut stateIn waitingIn seenIn originIn
     read-carried = record {
-      says =
-          let dry : getD (drainedIn marks) q 0 ≡ getD (issuedIn marks) q 0 = rows.drained-is marks q h ∙ asks .dry ∙ sym (rows.issued-is marks q h) in
-          ap (event 1 q x) (sym (rows.memory-is cells x (asks .location)) ∙ sym (sees-memory locations values _ _ q x _ dry));
-      after = stored.received-is cells locations values marks i (asks .own) (getD cells (memoryAt x) 0);
+      says = ap (event 1 q x) (sym (rows.memory-is cells x (asks .location)) ∙ sym (ap (λ (ws : List WaitingWrite). seenIn ws x (getD (memoryIn cells) x 0)) none));
+      after = stored.read-is cells locations values marks i (asks .own) (asks .hasMarks) (getD cells (memoryAt x) 0) Memory
+          ∙ ap (λ (ws : List WaitingWrite). countedIn (receivedIn m i (getD cells (memoryAt x) 0)) (originIn ws x)) (sym none);
     }
 
     pub write-carried : (v : ℕ) → v ≡ actsOf (i .kind) .issues (i .value) (getD cells (keptAt q) 0) (getD cells (registerOf i) 0)
@@ -88,11 +94,11 @@ module _ (cells locations values marks : List ℕ) where
 
     pub lock-carried : CarriesOut m i 5 (event 5 q 0 0) (stateIn cells locations values (set marks holderAt q))
     unfolding nextIn carriedOut
-    lock-carried = record { says = refl; after = stored.held-is cells locations values marks (asks .hasHolder) q }
+    lock-carried = record { says = refl; after = stored.held-is cells locations values marks (let l = asks .hasMarks in omega arith) q }
 
     pub unlock-carried : CarriesOut m i 6 (event 6 q 0 0) (stateIn cells locations values (set marks holderAt nobody))
     unfolding nextIn carriedOut
-    unlock-carried = record { says = refl; after = stored.held-is cells locations values marks (asks .hasHolder) nobody }
+    unlock-carried = record { says = refl; after = stored.held-is cells locations values marks (let l = asks .hasMarks in omega arith) nobody }
 
     pub local-carried : CarriesOut m i 7 (event 7 q 0 0) (stateIn (set cells (registerOf i) (i .value)) locations values marks)
     unfolding nextIn carriedOut

@@ -31,7 +31,8 @@ use Rattle.machine.specs.Ready.{Own, Ready}
 use Rattle.machine.proofs.Moves.{offer, empty-is, oldest-offer}
 use Rattle.machine.proofs.Sim.{next-offer}
 use Rattle.machine.proofs.Standing.{any-whose, any-low, any-own}
-use Rattle.machine.proofs.Taken.{next-fields, inside, not-drain, offered-taken}
+use Rattle.machine.proofs.Offered.{next-fields, inside, not-drain}
+use Rattle.machine.proofs.Taken.{offered-taken}
 use Rattle.finish_left.specs.Mover.{moverIn}
 use Rattle.finish_left.proofs.Movers.{mover-is}
 use Rattle.finish_step.specs.Moves.{oldestDrain, DrainsOldest, CarriesOut}

@@ -91,7 +91,7 @@ module _ (codes constants cells locations values marks : List ℕ) (u : HasMore 
         may-carry-out = record {
           own = record { processor = own-low; register = here .register };
           location = here .location;
-          hasHolder = standing.has-holder _ _ _ _ _ _ ready p low;
+          hasMarks = standing.has-marks _ _ _ _ _ _ ready p low;
           dry = rw its w;
           write = λ z. rw its (standing.issuable _ _ _ _ _ _ ready p low within i read (sym is ∙ z));
         }

@@ -31,7 +31,7 @@ pub record DrainsOldest (m : State) (p : ℕ) (e : Event) (n : State) : Type 0 w
 pub record MayCarryOut (marks : List ℕ) (i : Record) (next : ℕ) : Type 0 where
   pub own : Own i
   pub location : i .location < sizes.locations
-  pub hasHolder : 0 < length marks
+  pub hasMarks : 1 < length marks
   pub dry : getD marks (drainedAt (i .processor)) 0 ≡ getD marks (issuedAt (i .processor)) 0
   pub write : next ≡ 2 → Issuable marks (i .processor)
 

@@ -17,7 +17,7 @@ pub fn readable(words: &[u64]) -> Verdict
     let mut codes = [0u8; Program::CODES];
     let mut constants = [Program::UNREAD; Program::PLACES];
     let mut cells = [0u32; Machine::CELLS];
-    let mut given = [false; Cells::WORDS];
+    let mut given = [false; Cells::ALL];
     let mut begun = false;
     let mut i: usize = 0;
     while i < words.len() {

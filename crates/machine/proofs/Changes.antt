@@ -5,6 +5,7 @@ use mathlib.Core.List.{List, [], _∷_, _++_}
 use Prim.Native.Nat.{ℕ, _+_, _-_, _<_}
 use lib.ListN.{length, getD, drop, set}
 use lib.Seq.{slice, getD-set-same, getD-set-other}
+use Rattle.model.specs.declared.origin.Origin.{Origin}
 use Rattle.model.specs.declared.record.Record.{Record}
 use Rattle.model.specs.Sizes.{processors, registersEach, instructionsEach}
 use Rattle.model.specs.Program.{ProgramStep}
@@ -14,7 +15,7 @@ use Rattle.model.specs.Code.{Columns, placeAt, row, stepsFrom, countIn}
 use Rattle.model.proofs.Rows.{row-set, row-set-other, four-get, four-set}
 use Rattle.machine_rules.specs.Offers.{writesIn}
 use Rattle.machine.specs.View.{waitingIn, todoIn, processorOf, holderOf, machineOf}
-use Rattle.machine.specs.Stores.{isLast, nextAt, assignedIn, advancedIn, afterDrain, heldIn}
+use Rattle.machine.specs.Stores.{isLast, nextAt, assignedIn, advancedIn, afterDrain, heldIn, countedIn}
 use Rattle.machine.specs.Ready.{Own, Long}
 use Rattle.machine.proofs.Logs.{pushedIn, Bounds, pushed-own, pushed-other, newerIn}
 use Rattle.machine_state.specs.State.{State, parts}
@@ -25,9 +26,15 @@ pub record Changes (g : Columns) (m n : State) (p : ℕ) (F : Processor → Proc
   pub others : (q : ℕ) → q < processors → ¬ (q ≡ p) → processorOf g n q ≡ processorOf g m q
 
 module _ (g : Columns) where
+  -- who holds the lock changes no processor
   pub same-processors : (m : State) (p holder : ℕ) → Changes g m (heldIn m holder) p (λ P. P)
   unfolding processorOf todoIn waitingIn
   same-processors m p holder = record { own = refl; others = λ q h n. refl }
+
+  -- nor does what is counted
+  pub same-machine : (m : State) (from : Origin) → machineOf g (countedIn m from) ≡ machineOf g m
+  unfolding machineOf processorOf todoIn waitingIn
+  same-machine m from = refl
 
   pub then : {m n o : State} {p : ℕ} {F G : Processor → Processor} → Changes g m n p F → Changes g n o p G → Changes g m o p (λ P. G (F P))
   then {G = G} a b = record { own = b .own ∙ ap G (a .own); others = λ q h n. b .others q h n ∙ a .others q h n }
@@ -69,7 +76,7 @@ module _ (g : Columns) where
   -- ---- a value kept aside
 
   abbrev pub asideIn : State → ℕ → ℕ → State
-  asideIn m p v = parts (m .registers) (m .memory) (set (m .kept) p v) (m .at) (m .phase) (m .locations) (m .values) (m .issued) (m .drained) (m .holder) (m .free)
+  asideIn m p v = parts (m .registers) (m .memory) (set (m .kept) p v) (m .at) (m .phase) (m .locations) (m .values) (m .issued) (m .drained) (m .holder) (m .own) (m .free)
 
   abbrev pub withKept : ℕ → Processor → Processor
   withKept v P = record { todo = P .todo; kept = v; registers = P .registers; waiting = P .waiting }

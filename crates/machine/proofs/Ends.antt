@@ -9,7 +9,7 @@ use lib.Dec.{eqb, lit<}
 use borrow.Author.Tests.{eqb-true, eqb-false}
 use Rattle.model.specs.Sizes.{processors}
 use Rattle.model.specs.Step.{isEmpty}
-use Rattle.model.specs.Reply.{registersIn, words}
+use Rattle.model.specs.Reply.{registersIn, outcome}
 use Rattle.model.specs.Finish.{isDone, areDone, isFinished}
 use Rattle.model.specs.Code.{Columns, countIn}
 use Rattle.model.proofs.Rows.{rows-whole}
@@ -62,7 +62,7 @@ module _ (g : Columns) (m : State) (ready : Ready g m) where
       four-and (done 0) (done 1) (done 2) (done 3)
       ∙ (λ j. sym (done-is 0 (lit< tt)) j && (sym (done-is 1 (lit< tt)) j && (sym (done-is 2 (lit< tt)) j && (sym (done-is 3 (lit< tt)) j && true))))
 
-  -- the words of a result
-  pub words-are : words (machineOf g m) ≡ m .registers ++ m .memory
-  unfolding words machineOf registersIn processorOf
-  words-are = ap (λ (l : List ℕ). l ++ m .memory) (rows-whole (m .registers) (ready .long .registers))
+  -- the outcome
+  pub outcome-is : outcome (machineOf g m) ≡ m .registers ++ m .memory
+  unfolding outcome machineOf registersIn processorOf
+  outcome-is = ap (λ (l : List ℕ). l ++ m .memory) (rows-whole (m .registers) (ready .long .registers))

@@ -10,11 +10,11 @@ use lib.Seq.{getD-set-same, getD-set-other}
 use borrow.Author.Tests.{eqb-true, eqb-false}
 use Rattle.model.specs.declared.record.Record.{Record}
 use Rattle.model.specs.Program.{ProgramStep}
-use Rattle.model.specs.Sizes.{processors, locations}
-use Rattle.model.specs.Left.{writes}
+use Rattle.model.specs.Sizes.{processors, locations, longestTrace}
+use Rattle.model.specs.Left.{writes, left as leftOf}
 use Rattle.model.specs.Code.{Columns, instructionAt, countIn, actsOf}
 use Rattle.model.proofs.Lists.{each}
-use Rattle.machine.specs.View.{todoIn}
+use Rattle.machine.specs.View.{todoIn, machineOf}
 use Rattle.machine_rules.specs.Steps.{stepKind, stepCount}
 use Rattle.machine.specs.Arrays.{nextOf}
 use Rattle.machine_rules.specs.Offers.{nextIn}
@@ -77,7 +77,7 @@ module _ (g : Columns) (m : State) (ready : Ready g m) (i : Record) (here : Fetc
     unfolding carriedOut nextIn writes
     carries-read e =
         still _ refl refl refl
-        (stored-long m (ready .long) _ _ _ _ _ _ (either-long (actsOf (i .kind) .loads) _ _ 16 (set-long (m .registers) _ _ 16 (ready .long .registers)) (ready .long .registers))
+        (stored-long m (ready .long) _ _ _ _ _ _ _ (either-long (actsOf (i .kind) .loads) _ _ 16 (set-long (m .registers) _ _ 16 (ready .long .registers)) (ready .long .registers))
         (either-long (actsOf (i .kind) .loads) _ _ 4 (ready .long .kept) (set-long (m .kept) _ _ 4 (ready .long .kept)))
         (ready .long .logLocations) (ready .long .logValues) (ready .long .issued))
         refl refl (ap writes e)
@@ -92,7 +92,7 @@ module _ (g : Columns) (m : State) (ready : Ready g m) (i : Record) (here : Fetc
           phase = refl;
           drained = refl;
           long =
-              stored-long m (ready .long) _ _ _ _ _ _ (either-long (actsOf (i .kind) .exchanges) _ _ 16 (set-long (m .registers) _ _ 16 (ready .long .registers)) (ready .long .registers))
+              stored-long m (ready .long) _ _ _ _ _ _ _ (either-long (actsOf (i .kind) .exchanges) _ _ 16 (set-long (m .registers) _ _ 16 (ready .long .registers)) (ready .long .registers))
               (ready .long .kept) (set-long (m .locations) _ _ 64 (ready .long .logLocations)) (set-long (m .values) _ _ 64 (ready .long .logValues)) (set-long (m .issued) _ _ 4 (ready .long .issued));
           inLog = each 0 (λ k x. x < locations) (m .locations) (nextPlace (m .issued) p) (i .location) (ready .inLog) (here .location);
           others = λ q x. getD-set-other (m .issued) p q (n + 1) 0 x;
@@ -101,7 +101,7 @@ module _ (g : Columns) (m : State) (ready : Ready g m) (i : Record) (here : Fetc
         }
 
     held-long : (holder : ℕ) → Long (heldIn m holder)
-    held-long holder = stored-long m (ready .long) _ _ _ _ _ holder (ready .long .registers) (ready .long .kept) (ready .long .logLocations) (ready .long .logValues) (ready .long .issued)
+    held-long holder = stored-long m (ready .long) _ _ _ _ _ holder (m .own) (ready .long .registers) (ready .long .kept) (ready .long .logLocations) (ready .long .logValues) (ready .long .issued)
 
     carries-fence : Carries 4
     unfolding carriedOut nextIn writes
@@ -119,7 +119,7 @@ module _ (g : Columns) (m : State) (ready : Ready g m) (i : Record) (here : Fetc
     unfolding carriedOut nextIn writes
     carries-local e =
         still (assignedIn m i (i .value)) refl refl refl
-        (stored-long m (ready .long) _ _ _ _ _ _ (set-long (m .registers) _ _ 16 (ready .long .registers)) (ready .long .kept) (ready .long .logLocations) (ready .long .logValues) (ready .long .issued))
+        (stored-long m (ready .long) _ _ _ _ _ _ _ (set-long (m .registers) _ _ 16 (ready .long .registers)) (ready .long .kept) (ready .long .logLocations) (ready .long .logValues) (ready .long .issued))
         refl refl (ap writes e)
 
     pub carries : Carried (carriedOut m i (nextOf m i (stepKind (i .kind) f)))
@@ -172,8 +172,8 @@ module _ (g : Columns) (m : State) (ready : Ready g m) (i : Record) (here : Fetc
             stands = rw (ea, ef) (y .stands);
           }
 
-      pub ready-advanced : Ready g (advancedIn c i)
-      ready-advanced = record { fits = ready .fits; long = advanced-long c (k .long) i; inLog = k .inLog; each = λ q o. go q o (eqb q p) refl }
+      pub ready-advanced : c .own + leftOf (machineOf g (advancedIn c i)) ≤ longestTrace → Ready g (advancedIn c i)
+      ready-advanced counts = record { fits = ready .fits; long = advanced-long c (k .long) i; inLog = k .inLog; each = λ q o. go q o (eqb q p) refl; counts = counts }
         where
           go : (q : ℕ) → q < processors → (b : Bool) → eqb q p ≡ b → ReadyAt g (advancedIn c i) q
           go q o true e = rw (eqb-true q p e) ready-own

@@ -19,10 +19,10 @@ either-long true xs ys n h k = h
 either-long false xs ys n h k = k
 
 module _ (m : State) (l : Long m) where
-  pub stored-long : (registers kept locations values issued : List ℕ) (holder : ℕ) → length registers ≡ processors * registersEach → length kept ≡ processors
+  pub stored-long : (registers kept locations values issued : List ℕ) (holder own : ℕ) → length registers ≡ processors * registersEach → length kept ≡ processors
       → length locations ≡ processors * instructionsEach → length values ≡ processors * instructionsEach → length issued ≡ processors
-      → Long (parts registers (m .memory) kept (m .at) (m .phase) locations values issued (m .drained) holder (m .free))
-  stored-long registers kept locations values issued holder r k x v n = record {
+      → Long (parts registers (m .memory) kept (m .at) (m .phase) locations values issued (m .drained) holder own (m .free))
+  stored-long registers kept locations values issued holder own r k x v n = record {
     registers = r;
     memory = l .memory;
     kept = k;

@@ -9,6 +9,8 @@ pub mod Sim
 -- ---- and keeps what holds of a state
 pub mod Lengths
 pub mod Keeps
+pub mod Offered
+pub mod Counts
 pub mod Taken
 -- ---- the code's functions
 pub mod Stored

@@ -23,7 +23,7 @@ use Rattle.machine.specs.Stores.{nextPlace}
 abbrev pub pushedIn : State → ℕ → ℕ → ℕ → State
 pushedIn m p x v =
     parts (m .registers) (m .memory) (m .kept) (m .at) (m .phase) (set (m .locations) (nextPlace (m .issued) p) x) (set (m .values) (nextPlace (m .issued) p) v)
-    (set (m .issued) p (getD (m .issued) p 0 + 1)) (m .drained) (m .holder) (m .free)
+    (set (m .issued) p (getD (m .issued) p 0 + 1)) (m .drained) (m .holder) (m .own) (m .free)
 
 -- the waiting writes alone; those of q wait between its two numbers
 abbrev pub Bounds : State → ℕ → Type 0

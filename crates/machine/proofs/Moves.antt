@@ -16,18 +16,18 @@ use Rattle.model.specs.Kinds.{tableRows}
 use Rattle.model.specs.Machine as model
 use Rattle.model.specs.Machine.{Processor, WaitingWrite, writeOf, free, held, processor, issued, advanced, assigned, received, wrote, drained, withProcessor, withCell, withHolder}
 use Rattle.model.specs.Rules.{Event, event, R, W, F, L, U, N}
-use Rattle.model.specs.Step.{Move, move, drainMove, nextMove, newest, seen, isEmpty}
+use Rattle.model.specs.Step.{Move, move, drainMove, nextMove, originIn, seenIn, seen, isEmpty}
 use Rattle.model.specs.Left.{writes}
 use Rattle.model.proofs.Rows.{slice-get}
 use Rattle.machine.specs.View.{waitingIn, todoIn, processorOf, holderOf, machineOf}
 use Rattle.machine_rules.specs.Steps.{stepKind, stepCount}
 use Rattle.machine.specs.Arrays.{oldestOf, nextOf}
 use Rattle.machine_rules.specs.Offers.{oldestIn, nextIn}
-use Rattle.machine.specs.Stores.{advancedIn, afterDrain, assignedIn, heldIn, afterEvent}
+use Rattle.machine.specs.Stores.{advancedIn, afterDrain, assignedIn, receivedIn, heldIn, afterEvent}
 use Rattle.machine.specs.Ready.{Own, ReadyAt, Ready}
 use Rattle.machine.proofs.Todo.{targetOf, sourceOf, stepFor, issues, exchanges-is, by-kind}
 use Rattle.machine.proofs.Logs.{pushedIn, newerIn, none-waits, some-wait, waits-none}
-use Rattle.machine.proofs.Changes.{Changes, same-processors, then, processor-is, machine-is, withRegister, assigned-changes, asideIn, withKept, kept-changes, withWrite, pushed-changes, drained-changes, advanced-changes}
+use Rattle.machine.proofs.Changes.{Changes, same-processors, same-machine, then, processor-is, machine-is, withRegister, assigned-changes, asideIn, withKept, kept-changes, withWrite, pushed-changes, drained-changes, advanced-changes}
 use Rattle.machine.proofs.Locks.{held-by}
 use Rattle.machine_state.specs.State.{State, parts}
 
@@ -115,10 +115,10 @@ module _ (g : Columns) (m : State) (ready : Ready g m) (i : Record) (own : Own i
 
     read-is : (x v : ℕ) → withProcessor M p (received (processor M p) rest (targetOf i) v) ≡ machineOf g (afterEvent m i (R p x v))
     unfolding withProcessor machineOf afterEvent received assigned advanced
-    read-is x v = go (actsOf (i .kind) .loads)
+    read-is x v = go (actsOf (i .kind) .loads) ∙ sym (same-machine g (advancedIn (receivedIn m i v) i) (originIn (waitingIn m p) (i .location)))
       where
         go : (b : Bool) → withProcessor M p (received (processor M p) rest (cond b (into (i .register)) aside) v)
-            ≡ machineOf g (advancedIn (parts (cond b (set (m .registers) (registerOf i) v) (m .registers)) (m .memory) (cond b (m .kept) (set (m .kept) p v)) (m .at) (m .phase) (m .locations) (m .values) (m .issued) (m .drained) (m .holder) (m .free)) i)
+            ≡ machineOf g (advancedIn (parts (cond b (set (m .registers) (registerOf i) v) (m .registers)) (m .memory) (cond b (m .kept) (set (m .kept) p v)) (m .at) (m .phase) (m .locations) (m .values) (m .issued) (m .drained) (m .holder) (m .own) (m .free)) i)
         go true = sym (stepped (assignedIn m i v) (withRegister g (i .register) v) refl refl (assigned-changes g m i v own))
         go false = sym (stepped (asideIn g m p v) (withKept g v) refl refl (kept-changes g m p v (own .processor) (ready .long)))
 
@@ -151,7 +151,7 @@ module _ (g : Columns) (m : State) (ready : Ready g m) (i : Record) (own : Own i
 
         go : (b : Bool) → withProcessor M p (advanced (withExchange b (writeOf x v) (processor M p)) rest)
             ≡ machineOf g (advancedIn (parts (cond b (set (m .registers) (registerOf i) (getD (m .kept) p 0)) (m .registers)) (m .memory) (m .kept) (m .at) (m .phase)
-            (set (m .locations) (placeAt p n) x) (set (m .values) (placeAt p n) v) (set (m .issued) p (n + 1)) (m .drained) (m .holder) (m .free)) i)
+            (set (m .locations) (placeAt p n) x) (set (m .values) (placeAt p n) v) (set (m .issued) p (n + 1)) (m .drained) (m .holder) (m .own) (m .free)) i)
         go true = sym (stepped (assignedIn (pushedIn m p x v) i (getD (m .kept) p 0)) (withExchange true (writeOf x v)) refl refl (exchange-changes x v pushes))
         go false = sym (stepped (pushedIn m p x v) (withWrite g (writeOf x v)) refl refl pushes)
 
@@ -176,16 +176,16 @@ module _ (g : Columns) (m : State) (ready : Ready g m) (i : Record) (own : Own i
     unfolding nextMove nextIn
     offers-local = ap (move (N p)) set-is
 
-    seen-is : seen M p (i .location) ≡ newest (waitingIn m p) (i .location) (getD (m .memory) (i .location) 0)
+    seen-is : seen M p (i .location) ≡ seenIn (waitingIn m p) (i .location) (getD (m .memory) (i .location) 0)
     unfolding seen machineOf
-    seen-is = ap (λ (ws : List WaitingWrite). newest ws (i .location) (getD (m .memory) (i .location) 0)) waiting-is
+    seen-is = ap (λ (ws : List WaitingWrite). seenIn ws (i .location) (getD (m .memory) (i .location) 0)) waiting-is
 
     offers-read : Offers 1
     unfolding nextMove nextIn machineOf waitingIn
     offers-read =
         let x = i .location in
         (λ j. move (R p x (seen-is j)) (withProcessor M p (received (processor M p) rest (targetOf i) (seen-is j))))
-        ∙ ap (move (R p x (newest (waitingIn m p) x (getD (m .memory) x 0)))) (read-is x (newest (waitingIn m p) x (getD (m .memory) x 0)))
+        ∙ ap (move (R p x (seenIn (waitingIn m p) x (getD (m .memory) x 0)))) (read-is x (seenIn (waitingIn m p) x (getD (m .memory) x 0)))
 
     issued-is : issued (processor M p) (sourceOf i) ≡ actsOf (i .kind) .issues (i .value) (getD (m .kept) p 0) (getD (m .registers) (registerOf i) 0)
     unfolding processorOf

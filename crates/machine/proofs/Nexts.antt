@@ -3,6 +3,7 @@ use mathlib.Core.Path.{_≡_, refl, sym, ap, _∙_, subst}
 use mathlib.Core.Bool.{Bool, true, cond, not, _&&_}
 use mathlib.Core.List.{List}
 use Prim.Native.Nat.{ℕ, _<_}
+use native.Mathlib.Omega.{arith}
 use lib.ListN.{length, getD, set}
 use lib.Dec.{eqb}
 use borrow.Author.Tests.{eq-eqb}
@@ -15,16 +16,17 @@ use Rattle.model.specs.Fields.{Proper}
 use Rattle.model.specs.Kinds.{stepUses}
 use Rattle.model.specs.Rules.{Event, event, conditions}
 use Rattle.model.specs.Code.{instructionOf, actsOf, taken, judged}
-use Rattle.model.specs.Step.{same, newest, firstMet}
+use Rattle.model.specs.Step.{same, originIn, seenIn, firstMet}
 use Rattle.model.proofs.Bools.{self}
 use Rattle.machine_rules.specs.Guards.{nobody}
 use Rattle.machine_rules.specs.Offers.{waitingFrom, nextIn}
 use Rattle.machine_state.specs.State.{State}
 use Rattle.machine_state.specs.Packed.{registersIn, memoryIn, keptIn, issuedAt, drainedAt, issuedIn, drainedIn, stateIn}
 use Rattle.machine_state.proofs.Rows as rows
-use Rattle.machine_take.specs.Takes.{names, cellOf, metIn, attempted, Reads, Writes, Holds, Assigns}
+use Rattle.machine_take.specs.Takes.{names, cellOf, metIn, attempted, waitsIn, Reads, Writes, Holds, Assigns}
 use Rattle.machine.specs.Arrays.{nextOf}
-use Rattle.machine.specs.Stores.{carriedOut}
+use Rattle.machine.specs.View.{waitingIn}
+use Rattle.machine.specs.Stores.{receivedIn, countedIn, carriedOut}
 use Rattle.machine.specs.Next.{metOf, attemptedOf, TakesNext}
 use Rattle.machine.specs.Ready.{Own}
 use Rattle.model.proofs.Events.{no-register, Bare}
@@ -77,10 +79,6 @@ module _ (cells locations values marks : List ℕ) (i e : Record) (r : Attempt) 
   stored-as : (n full : State) → n ≡ cond (taken r) full m → full ≡ carriedOut m o e → n ≡ cond (taken r) (carriedOut m o e) m
   stored-as n full f g = f ∙ ap (λ (w : State). cond (taken r) w m) g
 
-  in-cells : (a : Attempt) (cells' full : List ℕ) → cells' ≡ cond (taken a) full cells → stateIn cells' locations values marks ≡ cond (taken a) (stateIn full locations values marks) m
-  in-cells Taken cells' full f = ap (λ (l : List ℕ). stateIn l locations values marks) f
-  in-cells (Turned why) cells' full f = ap (λ (l : List ℕ). stateIn l locations values marks) f
-
   in-marks : (a : Attempt) (marks' full : List ℕ) → marks' ≡ cond (taken a) full marks → stateIn cells locations values marks' ≡ cond (taken a) (stateIn cells locations values full) m
   in-marks Taken marks' full f = ap (λ (l : List ℕ). stateIn cells locations values l) f
   in-marks (Turned why) marks' full f = ap (λ (l : List ℕ). stateIn cells locations values l) f
@@ -89,16 +87,22 @@ module _ (cells locations values marks : List ℕ) (i e : Record) (r : Attempt) 
     has : Own o
     has = record { processor = h; register = reg }
 
-    pub read-next : e .kind ≡ 1 → i .location < 8 → (cells' : List ℕ) → Reads cells locations values marks i e r cells' → TakesNext m i e r (stateIn cells' locations values marks)
-    unfolding nextIn carriedOut stateIn
-    read-next z l cells' t =
+    pub read-next : e .kind ≡ 1 → i .location < 8 → 1 < length marks → (cells' marks' : List ℕ) → Reads cells locations values marks i e r cells' marks' → TakesNext m i e r (stateIn cells' locations values marks')
+    unfolding nextIn carriedOut stateIn waitingIn
+    read-next z l long cells' marks' t =
         let y = i .location in
         as-own _
         (record {
-          says = tested 1 y (newest (waitingFrom locations values (getD (issuedIn marks) p 0) (getD (drainedIn marks) p 0) p) y (getD (memoryIn cells) y 0)) z refl _
-              (λ j. names e y (newest (waitingFrom locations values (n-is j) (d-is j) p) y (sym (rows.memory-is cells y l) j))) (t .says);
-          after = stored-as _ _ (in-cells r cells' _ (t .cellsAfter)) (stored.received-is cells locations values marks o has (e .value) ∙ rw z);
+          says = tested 1 y (seenIn (waitingFrom locations values (getD (issuedIn marks) p 0) (getD (drainedIn marks) p 0) p) y (getD (memoryIn cells) y 0)) z refl _
+              (λ j. names e y (seenIn (waitingFrom locations values (n-is j) (d-is j) p) y (sym (rows.memory-is cells y l) j))) (t .says);
+          after = stored-as _ _ (rw (t .cellsAfter, t .marksAfter) (go r _ _))
+              (stored.read-is cells locations values marks o has long (e .value) (originIn (waitsIn locations values marks p) y)
+              ∙ (λ j. countedIn (receivedIn m o (e .value)) (originIn (waitingFrom locations values (n-is j) (d-is j) p) y)) ∙ rw z);
         })
+      where
+        go : (a : Attempt) (cs ks : List ℕ) → stateIn (cond (taken a) cs cells) locations values (cond (taken a) ks marks) ≡ cond (taken a) (stateIn cs locations values ks) m
+        go Taken cs ks = refl
+        go (Turned why) cs ks = refl
 
     pub write-next : e .kind ≡ 2 → (cells' locations' values' marks' : List ℕ) → Writes cells locations values marks i e r cells' locations' values' marks' → TakesNext m i e r (stateIn cells' locations' values' marks')
     unfolding nextIn carriedOut stateIn
@@ -135,7 +139,7 @@ module _ (cells locations values marks : List ℕ) (i e : Record) (r : Attempt) 
       go Taken = refl
       go (Turned why) = refl
 
-  module _ (l : 0 < length marks) (marks' : List ℕ) where
+  module _ (l : 1 < length marks) (marks' : List ℕ) where
     -- the holder afterwards is `holder`
     held : (k holder : ℕ) → e .kind ≡ k → Bare e → event k p 0 0 ≡ nextOf m o k → stateIn cells locations values (set marks 0 holder) ≡ carriedOut m o e → Holds k holder marks p r marks'
         → TakesNext m i e r (stateIn cells locations values marks')
@@ -143,8 +147,8 @@ module _ (cells locations values marks : List ℕ) (i e : Record) (r : Attempt) 
 
     pub lock-next : e .kind ≡ 5 → Bare e → Holds 5 p marks p r marks' → TakesNext m i e r (stateIn cells locations values marks')
     unfolding nextIn carriedOut stateIn
-    lock-next z b = held 5 p z b refl (stored.held-is cells locations values marks l p ∙ rw z)
+    lock-next z b = held 5 p z b refl (stored.held-is cells locations values marks (omega arith) p ∙ rw z)
 
     pub unlock-next : e .kind ≡ 6 → Bare e → Holds 6 nobody marks p r marks' → TakesNext m i e r (stateIn cells locations values marks')
     unfolding nextIn carriedOut stateIn
-    unlock-next z b = held 6 nobody z b refl (stored.held-is cells locations values marks l nobody ∙ rw z)
+    unlock-next z b = held 6 nobody z b refl (stored.held-is cells locations values marks (omega arith) nobody ∙ rw z)

@@ -9,6 +9,7 @@ use Rattle.model.specs.declared.record.Record.{Record}
 use Rattle.model.specs.Sizes.{processors, instructionsEach, phases}
 use Rattle.model.specs.Kinds.{tableRows}
 use Rattle.model.specs.Rules.{Event}
+use Rattle.model.specs.Step.{originIn}
 use Rattle.model.specs.Code.{Columns, instructionAt, countIn}
 use Rattle.machine_rules.specs.Guards.{nobody}
 use Rattle.machine_rules.specs.Steps.{stepKind}
@@ -20,9 +21,10 @@ use Rattle.machine_state.specs.Packed.{standsAt, phaseAt, issuedAt, drainedAt, 
 use Rattle.machine_state.proofs.Rows as rows
 use Rattle.machine_store.specs.Stores.{Issuable, Onward}
 use Rattle.machine_take.specs.Takes.{LogOf}
-use Rattle.machine.specs.Stores.{assignedIn, receivedIn, wroteIn, heldIn, carriedOut}
+use Rattle.machine.specs.Stores.{assignedIn, receivedIn, countedIn, wroteIn, heldIn, carriedOut}
+use Rattle.machine.specs.View.{waitingIn}
 use Rattle.machine.specs.Ready.{Ready}
-use Rattle.machine.proofs.Taken.{room}
+use Rattle.machine.proofs.Offered.{room}
 
 -- n stands where m does
 abbrev pub Stays : State → State → Type 0
@@ -34,7 +36,7 @@ unfolding carriedOut
 stays m i e = go (e .kind)
   where
     go : (k : ℕ) → Stays m (getD
-        (m ∷ receivedIn m i (e .value) ∷ wroteIn m i e ∷ m ∷ m ∷ heldIn m (i .processor) ∷ heldIn m nobody ∷ assignedIn m i (i .value) ∷ [])
+        (m ∷ countedIn (receivedIn m i (e .value)) (originIn (waitingIn m (i .processor)) (i .location)) ∷ wroteIn m i e ∷ m ∷ m ∷ heldIn m (i .processor) ∷ heldIn m nobody ∷ assignedIn m i (i .value) ∷ [])
         k m)
     go zero = (refl, refl)
     go (suc zero) = (refl, refl)
@@ -46,9 +48,10 @@ stays m i e = go (e .kind)
     go (suc (suc (suc (suc (suc (suc (suc zero))))))) = (refl, refl)
     go (suc (suc (suc (suc (suc (suc (suc (suc k)))))))) = (refl, refl)
 
-marks-long : (marks : List ℕ) → length (packed.drainedIn marks) ≡ 4 → 0 < length marks
+marks-long : (marks : List ℕ) → length (packed.drainedIn marks) ≡ 4 → 1 < length marks
 marks-long [] e = absurd (omega arith)
-marks-long (x ∷ xs) e = omega arith
+marks-long (x ∷ []) e = absurd (omega arith)
+marks-long (x ∷ y ∷ xs) e = omega arith
 
 -- ---- with or without an instruction
 
@@ -93,9 +96,9 @@ module _ (codes constants cells locations values marks : List ℕ) (ready : Read
   unfolding stateIn
   a-is = sym (rows.at-is marks p h)
 
-  pub has-holder : 0 < length marks
+  pub has-marks : 1 < length marks
   unfolding stateIn
-  has-holder = marks-long marks (ready .long .drained)
+  has-marks = marks-long marks (ready .long .drained)
 
   pub log : LogOf locations values marks p
   unfolding stateIn
@@ -105,7 +108,7 @@ module _ (codes constants cells locations values marks : List ℕ) (ready : Read
       let w = all .room in
       let n = n-is in
       let d = d-is in
-      record { processor = h; order = omega arith; few = omega arith; locations = ready .long .logLocations; values = ready .long .logValues }
+      record { part = record { processor = h; order = omega arith; few = omega arith }; locations = ready .long .logLocations; values = ready .long .logValues }
 
   pub low-phase : getD marks (phaseAt p) 0 < phases
   low-phase = let s = ready .each p h .stands .phase in let f = f-is in omega arith

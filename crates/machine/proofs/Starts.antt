@@ -1,14 +1,15 @@
 -- The state at the start: it stands for the machine of the table, and all holds of it.
 use mathlib.Core.Path.{_≡_, refl}
 use mathlib.Core.List.{[], _∷_}
-use Prim.Native.Nat.{ℕ, _+_, _-_, _*_}
+use Prim.Native.Nat.{ℕ, _+_, _-_, _*_, _≤_}
 use native.Mathlib.Omega.{arith}
 use lib.ListN.{replicate}
 use lib.Dec.{lit<}
 use Rattle.model.specs.declared.table.Cells.{Cells}
-use Rattle.model.specs.Sizes.{processors, registersEach}
+use Rattle.model.specs.Sizes.{processors, registersEach, instructionsEach, stepsEach, longestTrace}
+use Rattle.model.specs.Left.{leftOf, leftIn, left}
 use Rattle.model.specs.Code.{Columns, row, unread, stepsFrom, countIn, processorAtStart, startOf, Fits, Sized}
-use Rattle.model.proofs.Columns.{few-writes}
+use Rattle.model.proofs.Columns.{few-writes, few-steps}
 use Rattle.model.proofs.Rows.{alike}
 use Rattle.machine.specs.View.{waitingIn, todoIn, processorOf, holderOf, machineOf}
 use Rattle.machine.specs.Arrays.{startIn}
@@ -42,6 +43,15 @@ module _ (g : Columns) (c : Cells) where
     holder = Rattle.model.specs.Machine.free;
   }
 
+  -- at most 320 steps
+  start-left : (p : ℕ) → Fits g → leftOf (processorAtStart g c p) ≤ stepsEach * instructionsEach
+  unfolding leftOf processorAtStart
+  start-left p s = omega (arith, few-steps g p 0 (countIn g p), few-writes g p 0 (countIn g p), s .few p)
+
+  few-left : Fits g → left (startOf g c) ≤ longestTrace
+  unfolding left leftIn startOf
+  few-left s = omega (arith, start-left 0 s, start-left 1 s, start-left 2 s, start-left 3 s)
+
   pub start-ready : Fits g → Sized c → Ready g (startIn c)
   start-ready s z = record {
     fits = s;
@@ -52,4 +62,5 @@ module _ (g : Columns) (c : Cells) where
       room = let w = few-writes g p 0 (countIn g p) in let few = s .few p in rw (alike {A = ℕ} 0 4 p, start-todo p) (omega arith);
       stands = rw (alike {A = ℕ} 0 4 p) (stands-first g p 0 s h (omega arith));
     };
+    counts = rw start-is (omega (arith, few-left s));
   }

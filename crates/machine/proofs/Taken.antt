@@ -1,29 +1,28 @@
 -- A step that is taken keeps what holds of a state at every step.
-use mathlib.Core.Path.{_≡_, refl, sym, ap, _∙_}
+use mathlib.Core.Path.{_≡_, refl, sym, _∙_}
 use mathlib.Core.Bool.{Bool, true, false, cond}
-use mathlib.Core.List.{_∷_}
-use Prim.Native.Nat.{ℕ, suc, _+_, _<_}
+use Prim.Native.Nat.{ℕ, _+_, _≤_, _<_}
 use native.Mathlib.Omega.{arith}
 use lib.ListN.{getD}
 use lib.Seq.{getD-set-same, getD-set-other}
-use lib.Dec.{eqb, ltb}
-use borrow.Author.Tests.{eqb-true, eqb-false, ne-eqb, ltb-true, ltb-false}
+use lib.Dec.{eqb}
+use borrow.Author.Tests.{eqb-true, eqb-false, ne-eqb}
 use Rattle.model.specs.declared.record.Record.{Record}
-use Rattle.model.specs.Sizes.{processors, instructionsEach}
-use Rattle.model.specs.Left.{writes}
+use Rattle.model.specs.Sizes.{processors, longestTrace}
+use Rattle.model.specs.Left.{left}
 use Rattle.model.specs.Rules.{Event, event}
 use Rattle.model.specs.Code.{Columns, countIn}
-use Rattle.machine.specs.View.{todoIn}
-use Rattle.machine_rules.specs.Steps.{stepsOfKind, stepKind}
+use Rattle.machine.specs.View.{todoIn, machineOf}
+use Rattle.machine_rules.specs.Steps.{stepKind}
 use Rattle.machine.specs.Arrays.{oldestOf, nextOf, offeredOf}
-use Rattle.machine_rules.specs.Offers.{nextIn, oldestIn, offeredIn}
+use Rattle.machine_rules.specs.Offers.{oldestIn}
 use Rattle.machine.specs.Stores.{afterDrain, carriedOut, afterEvent}
 use Rattle.machine.specs.Ready.{ReadyAt, Ready}
 use Rattle.machine_rules.specs.Programs.{Fetched}
-use Rattle.machine.proofs.Todo.{stepFor, by-kind}
-use Rattle.machine.proofs.Sim.{is-instruction, is-none, rest, todo-next}
 use Rattle.machine.proofs.Lengths.{drained-long}
 use Rattle.machine.proofs.Keeps.{carries, ready-advanced}
+use Rattle.machine.proofs.Offered.{next-fields, not-drain, by-offer}
+use Rattle.machine.proofs.Counts.{Bounded, bounded}
 use Rattle.machine_state.specs.State.{State}
 
 module _ (g : Columns) (m : State) (ready : Ready g m) (i : Record) (here : Fetched g (i .processor) (getD (m .at) (i .processor) 0) i) (h : i .processor < processors) where
@@ -42,36 +41,14 @@ module _ (g : Columns) (m : State) (ready : Ready g m) (i : Record) (here : Fetc
   at : ReadyAt g m p
   at = ready .each p h
 
-  -- ---- the program step that is offered
-
-  abbrev Fields : Event → ℕ → Type 0
-  Fields e k = (e .kind ≡ k) × (e .register ≡ 0)
-
-  pub next-fields : (k : ℕ) → Fields (nextOf m i k) k
-  unfolding nextIn
-  next-fields k = go (eqb k 1) refl (eqb k 2) refl _ _
-    where
-      x : ℕ
-      x = i .location
-
-      go : (b : Bool) → eqb k 1 ≡ b → (c : Bool) → eqb k 2 ≡ c → (v w : ℕ) → Fields (cond b (event 1 p x v) (cond c (event 2 p x w) (event k p 0 0))) k
-      go true e c y v w = (sym (eqb-true k 1 e), refl)
-      go false e true y v w = (sym (eqb-true k 2 y), refl)
-      go false e false y v w = (refl, refl)
-
-  -- one that uses neither location nor value
-  pub bare-next : (k : ℕ) → ¬ (k ≡ 1) → ¬ (k ≡ 2) → nextOf m i k ≡ event k p 0 0
-  unfolding nextIn
-  bare-next k r w = rw (ne-eqb k 1 r, ne-eqb k 2 w)
-
   -- ---- the drain
 
   abbrev d : ℕ
   d = getD (m .drained) p 0
 
-  ready-drained : (x v : ℕ) → d < n → Ready g (afterDrain m (event 3 p x v))
+  ready-drained : (x v : ℕ) → d < n → m .own + left (machineOf g (afterDrain m (event 3 p x v))) ≤ longestTrace → Ready g (afterDrain m (event 3 p x v))
   unfolding todoIn
-  ready-drained x v l = record { fits = ready .fits; long = drained-long m (ready .long) (event 3 p x v); inLog = ready .inLog; each = λ q o. go q o (eqb q p) refl }
+  ready-drained x v l counts = record { fits = ready .fits; long = drained-long m (ready .long) (event 3 p x v); inLog = ready .inLog; each = λ q o. go q o (eqb q p) refl; counts = counts }
     where
       go : (q : ℕ) → q < processors → (b : Bool) → eqb q p ≡ b → ReadyAt g (afterDrain m (event 3 p x v)) q
       go q o true e =
@@ -92,41 +69,15 @@ module _ (g : Columns) (m : State) (ready : Ready g m) (i : Record) (here : Fetc
   -- ---- either
 
   abbrev Taken : Event → Type 0
-  Taken o = Ready g (afterEvent m i o)
+  Taken o = Bounded g m ready i here h o → Ready g (afterEvent m i o)
 
-  -- a program step is offered only inside the program
-  pub inside : 0 < stepKind (i .kind) f → a < countIn g p
-  unfolding stepKind stepsOfKind
-  inside z = go (ltb a (countIn g p)) refl
-    where
-      go : (b : Bool) → ltb a (countIn g p) ≡ b → a < countIn g p
-      go true w = ltb-true a (countIn g p) w
-      go false w =
-          let none : i .kind ≡ 0 = ap (λ (r : Record). r .kind) (is-none g m ready i here h (ltb-false a (countIn g p) w)) in
-          let x : stepKind (i .kind) f ≡ 0 = ap (λ (n : ℕ). stepKind n f) none in
-          absurd (omega arith)
-
-  module _ (l : a < countIn g p) where
-    pub not-drain : ¬ (stepKind (i .kind) f ≡ 3)
-    not-drain =
-        by-kind (λ k. ¬ (k ≡ 3)) (λ z. omega arith) (λ z. omega arith) (λ z. omega arith) (λ z. omega arith) (λ z. omega arith) (λ z. omega arith) (i .kind) f (here .kind)
-        (rw (ap (λ (r : Record). r .kind) (is-instruction g m ready i here h l)) (at .stands .inside l))
-
-    pub room : stepKind (i .kind) f ≡ 2 → n < instructionsEach
-    unfolding writes
-    room z =
-        let t = todo-next g m ready i here h l in
-        let w : writes (todoIn g m p) ≡ suc (writes (rest g m ready i here h l)) = ap writes (t ∙ ap (λ (k : ℕ). stepFor i k ∷ rest g m ready i here h l) z) in
-        let x = at .room in
-        omega arith
-
-    next-taken : Taken (nextOf m i (stepKind (i .kind) f))
-    unfolding afterEvent
-    next-taken =
-        let o = nextOf m i (stepKind (i .kind) f) in
-        let fields = next-fields (stepKind (i .kind) f) in
-        let other : ¬ (o .kind ≡ 3) = λ z. not-drain (sym (fields .0) ∙ z) in
-        rw (ne-eqb (o .kind) 3 other) (ready-advanced g m ready i here h l (carriedOut m i o) (carries g m ready i here h l))
+  next-taken : a < countIn g p → Taken (nextOf m i (stepKind (i .kind) f))
+  unfolding afterEvent
+  next-taken l =
+      let o = nextOf m i (stepKind (i .kind) f) in
+      let fields = next-fields g m ready i here h (stepKind (i .kind) f) in
+      let other : ¬ (o .kind ≡ 3) = λ z. not-drain g m ready i here h l (sym (fields .0) ∙ z) in
+      rw (ne-eqb (o .kind) 3 other) (ready-advanced g m ready i here h l (carriedOut m i o) (carries g m ready i here h l))
 
   drain-taken : 0 < oldestOf m i .kind → Taken (oldestOf m i)
   unfolding oldestIn afterEvent
@@ -137,10 +88,5 @@ module _ (g : Columns) (m : State) (ready : Ready g m) (i : Record) (here : Fetc
       go false w x v z = let o = at .order in ready-drained x v (omega (arith, eqb-false d n w))
 
   -- whatever is offered, if it is a step, may be taken
-  pub offered-taken : (k : ℕ) → 0 < offeredOf m i k .kind → Taken (offeredOf m i k)
-  unfolding offeredIn
-  offered-taken k = go (eqb k 3)
-    where
-      go : (b : Bool) → 0 < cond b (oldestOf m i) (nextOf m i (stepKind (i .kind) f)) .kind → Taken (cond b (oldestOf m i) (nextOf m i (stepKind (i .kind) f)))
-      go true z = drain-taken z
-      go false z = next-taken (inside (rw (next-fields (stepKind (i .kind) f) .0) at z))
+  pub offered-taken : (k : ℕ) → 0 < offeredOf m i k .kind → Ready g (afterEvent m i (offeredOf m i k))
+  offered-taken k z = by-offer g m ready i here h Taken drain-taken next-taken k z (bounded g m ready i here h k z)

@@ -3,7 +3,8 @@ use mathlib.Core.Path.{_≡_, refl, sym, ap, _∙_, subst}
 use mathlib.Core.Bool.{Bool, true, false, cond, not}
 use mathlib.Core.Option.{Option, none, some}
 use mathlib.Core.List.{List}
-use Prim.Native.Nat.{ℕ, _≤_, _<_}
+use Prim.Native.Nat.{ℕ, _+_, _≤_, _<_}
+use native.Mathlib.Nat.{add-zero}
 use native.Mathlib.Omega.{arith}
 use lib.ListN.{getD, set}
 use lib.Dec.{eqb}
@@ -15,13 +16,13 @@ use Rattle.model.specs.declared.answer.Refusal.the-variants.{StepRule}
 use Rattle.model.specs.declared.answer.Condition.{Condition}
 use Rattle.model.specs.declared.answer.Condition.the-variants.{AnotherKind, NothingWaits, LockHeld, NotRight}
 use Rattle.model.specs.declared.record.Record.{Record}
-use Rattle.model.specs.Sizes.{processors, instructionsEach, phases}
+use Rattle.model.specs.Sizes.{processors, instructionsEach, phases, longestTrace}
 use Rattle.model.specs.Fields.{Proper}
 use Rattle.model.specs.Kinds.{stepUses}
 use Rattle.model.specs.Lists.{All}
 use Rattle.model.specs.Rules.{Event, event, conditions}
 use Rattle.model.specs.Code.{Columns, placeAt, instructionAt, countIn, taken, judged}
-use Rattle.model.specs.Step.{same, firstMet, took, stepped, afterMove, step}
+use Rattle.model.specs.Step.{same, firstMet, took, stepped, afterMove, step, servedOwn}
 use Rattle.model.proofs.Bools.{false-true, same-true}
 use Rattle.model.proofs.Conditions.{unmet}
 use Rattle.model.proofs.Rows.{below as number-by-number}
@@ -32,7 +33,7 @@ use Rattle.machine_rules.specs.Offers.{oldestIn, offeredIn}
 use Rattle.machine_rules.proofs.Table.{rows, in-rows}
 use Rattle.machine_state.specs.State.{State}
 use Rattle.machine_state.specs.Packed.{memoryAt, standsAt, phaseAt, issuedAt, drainedAt, countsIn, stateIn, columnsIn}
-use Rattle.machine_store.specs.Stores.{oneMoreDrained, advanced, Onward}
+use Rattle.machine_store.specs.Stores.{oneMoreDrained, advanced, Countable, Onward}
 use Rattle.machine_take.specs.Takes.{names, MayDrain, Drains}
 use Rattle.machine.specs.Arrays.{isDry, oldestOf, nextOf, offeredOf}
 use Rattle.machine.specs.Stores.{afterDrain, advancedIn, carriedOut, afterEvent}
@@ -45,7 +46,9 @@ use Rattle.machine.proofs.Sim.{is-none, step-is, offered-after}
 use Rattle.machine.proofs.Stored as stored
 use Rattle.machine.proofs.Standing as standing
 use Rattle.machine.proofs.Standing.{Stays, stays}
-use Rattle.machine.proofs.Taken.{next-fields, bare-next, offered-taken}
+use Rattle.machine.proofs.Offered.{next-fields, bare-next}
+use Rattle.machine.proofs.Counts.{offered-counts, offered-less}
+use Rattle.machine.proofs.Taken.{offered-taken}
 use Rattle.machine.proofs.Nexts.{same-names}
 
 -- ---- where the processor of e stands at the instruction i
@@ -119,9 +122,10 @@ module _ (g : Columns) (m : State) (ready : Ready g m) (e : Event) (proper : Pro
           record {
             says = is none y ∙ ap took (offered-after g m ready i here h o some ∙ ap (machineOf g) (sym after));
             ready = rw after (offered-taken g m ready i here h (e .kind) some);
+            own = ap (λ (s : State). s .own) after ∙ offered-counts g m ready i here h (e .kind) some ∙ ap (λ (u : Event). m .own + servedOwn (machineOf g m) u) (sym same);
             kept = λ w. false-true (sym w);
           }
-      go (some c) y f = record { says = is (some c) y; ready = rw f ready; kept = λ w. f }
+      go (some c) y f = record { says = is (some c) y; ready = rw f ready; own = ap (λ (s : State). s .own) f ∙ sym (add-zero (m .own)); kept = λ w. f }
 
   -- ---- a drain
 
@@ -181,6 +185,10 @@ module _ (g : Columns) (m : State) (ready : Ready g m) (e : Event) (proper : Pro
         other (λ z. absurd (omega (arith, z ∙ x)))
 
     module _ (k : e .kind ≡ stepKind (i .kind) (getD (m .phase) q 0)) where
+      -- there is a step left, so there may be a read to count
+      countable-at : m .own < longestTrace
+      countable-at = let some = some-kind e proper in omega (arith, ready .counts, offered-less g m ready i here h (e .kind) (rw (next-kind ∙ sym k) some))
+
       is-next : nextOf m i (e .kind) ≡ o
       unfolding offeredIn
       is-next = ap (nextOf m i) k ∙ rw (ne-eqb (e .kind) 3 n) refl
@@ -270,13 +278,18 @@ module _ (codes constants cells locations values marks : List ℕ) (ready : Read
       another n z = other g m ready e proper i here own-low (sym its) n (λ w. z (w ∙ sym kind-is))
 
       module _ (n : ¬ (e .kind ≡ 3)) (next : e .kind ≡ stepKind (i .kind) (getD marks (phaseAt p) 0)) where
+        countable : Countable marks
+        unfolding stateIn
+        countable = countable-at g m ready e proper i here own-low (sym its) n (next ∙ kind-is)
+
         pub may-take : MayTake locations values marks i e
         may-take = record {
           proper = proper;
           program = n;
           own = its;
           log = standing.log _ _ _ _ _ _ ready p h;
-          hasHolder = standing.has-holder _ _ _ _ _ _ ready p h;
+          hasMarks = standing.has-marks _ _ _ _ _ _ ready p h;
+          count = countable;
           register = here .register;
           location = here .location;
           write = λ z. standing.issuable _ _ _ _ _ _ ready p h inside i read (sym next ∙ z);

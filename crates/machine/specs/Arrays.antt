@@ -18,7 +18,7 @@ abbrev pub startIn : Cells → State
 startIn c =
     let zeros : List ℕ = replicate processors 0 in
     let log : ℕ → List ℕ = replicate (processors * instructionsEach) in
-    parts (c .registers) (c .memory) zeros zeros zeros (log 0) (log unread) zeros zeros nobody (replicate 3 0)
+    parts (c .registers) (c .memory) zeros zeros zeros (log 0) (log unread) zeros zeros nobody 0 (replicate 2 0)
 
 -- ---- the step that a processor can come to in it
 

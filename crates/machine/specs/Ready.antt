@@ -1,13 +1,13 @@
 -- What holds of a state at every step, and what a step promises.
 use mathlib.Core.Path.{_≡_}
 use Prim.Native.Nat.{ℕ, _+_, _*_, _≤_, _<_}
-use mathlib.Core.Bool.{false}
+use mathlib.Core.Bool.{false, cond}
 use lib.ListN.{length, getD}
 use Rattle.model.specs.declared.answer.Attempt.{Attempt}
 use Rattle.model.specs.declared.record.Record.{Record}
-use Rattle.model.specs.Sizes.{processors, registersEach, locations, instructionsEach, phases}
-use Rattle.model.specs.Left.{writes}
-use Rattle.model.specs.Step.{step}
+use Rattle.model.specs.Sizes.{processors, registersEach, locations, instructionsEach, phases, longestTrace}
+use Rattle.model.specs.Left.{writes, left}
+use Rattle.model.specs.Step.{step, servedOwn}
 use Rattle.model.specs.Code.{Columns, instructionAt, countIn, Fits, taken, steppedOf}
 use Rattle.model.specs.Rules.{Event}
 use Rattle.machine_rules.specs.Steps.{stepCount}
@@ -44,12 +44,13 @@ pub record ReadyAt (g : Columns) (m : State) (p : ℕ) : Type 0 where
   pub room : getD (m .issued) p 0 + writes (todoIn g m p) ≤ instructionsEach
   pub stands : Stands g p (getD (m .at) p 0) (getD (m .phase) p 0)
 
--- of all four, and every location in the log is one of the eight
+-- of all four; every location in the log is one of the eight; and there are no more reads to count than steps
 pub record Ready (g : Columns) (m : State) : Type 0 where
   pub fits : Fits g
   pub long : Long m
   pub inLog : (n : ℕ) → getD (m .locations) n 0 < locations
   pub each : (p : ℕ) → p < processors → ReadyAt g m p
+  pub counts : m .own + left (machineOf g m) ≤ longestTrace
 
 -- ---- a step
 
@@ -57,4 +58,5 @@ pub record Ready (g : Columns) (m : State) : Type 0 where
 pub record Steps (g : Columns) (m : State) (e : Event) (r : Attempt) (n : State) : Type 0 where
   pub says : step (machineOf g m) e ≡ steppedOf r (machineOf g n)
   pub ready : Ready g n
+  pub own : n .own ≡ m .own + cond (taken r) (servedOwn (machineOf g m) e) 0
   pub kept : taken r ≡ false → n ≡ m

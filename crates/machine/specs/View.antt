@@ -9,6 +9,7 @@ use Rattle.model.specs.Program.{ProgramStep}
 use Rattle.model.specs.Machine as model
 use Rattle.model.specs.Machine.{WaitingWrite, Processor, Holder, free, held}
 use Rattle.model.specs.Code.{Columns, row, four, stepsFrom, countIn}
+use Rattle.model.specs.Calls.{Reached, reached}
 use Rattle.machine_rules.specs.Guards.{nobody}
 use Rattle.machine_rules.specs.Offers.{writesIn, waitingFrom}
 use Rattle.machine_state.specs.State.{State}
@@ -36,3 +37,7 @@ holderOf h = cond (eqb h nobody) free (held h)
 unfoldable pub machineOf : Columns → State → model.Machine
 unfolding processorOf holderOf
 machineOf g m = record { processors = four (processorOf g m); memory = m .memory; holder = holderOf (m .holder) }
+
+-- and how far the run has come that led to it
+abbrev pub reachedOf : Columns → State → Reached
+reachedOf g m = reached (machineOf g m) (m .own)

@@ -1,17 +1,19 @@
 -- The lookup from the newest write; what waits, as two columns of the log.
 use mathlib.Core.Path.{_≡_, refl, sym, ap, _∙_}
-use mathlib.Core.Bool.{cond}
+use mathlib.Core.Bool.{Bool, true, false, cond}
 use mathlib.Core.List.{List, [], _∷_, _++_}
 use Prim.Native.Nat.{ℕ, zero, suc, _+_, _-_, _≤_, _<_}
 use native.Mathlib.Numerals.{sub-one}
 use native.Mathlib.Omega.{arith}
 use lib.Dec.{eqb}
 use lib.ListN.{length, getD, take, drop, set}
-use lib.Seq.{slice, slice-empty, slice-cons, length-slice, length-take-le, take-suc, take-suc-set, drop-append-le, drop-at, take-add}
+use lib.Seq.{slice, slice-empty, slice-cons, length-slice, length-take-le, take-suc, take-suc-set, drop-append-le, drop-at, take-add, take-length}
 use borrow.Author.Tests.{eq-eqb, ne-eqb}
 use Rattle.model.specs.Machine.{WaitingWrite, writeOf}
-use Rattle.model.specs.Step.{newest}
+use Rattle.model.specs.declared.origin.Origin.the-variants.{Memory, Waiting}
+use Rattle.model.specs.Step.{behind, originIn}
 use Rattle.machine_rules.specs.Offers.{writesIn}
+use Rattle.machine_rules.specs.Lookups.{Finds}
 
 -- ---- two columns
 
@@ -22,38 +24,62 @@ writes-snoc [] (w ∷ vs) x v h = absurd (omega arith)
 writes-snoc (y ∷ xs) [] x v h = absurd (omega arith)
 writes-snoc (y ∷ xs) (w ∷ vs) x v h = ap {B = List WaitingWrite} (λ l. writeOf y w ∷ l) (writes-snoc xs vs x v (omega arith))
 
+pub writes-length : (xs vs : List ℕ) → length xs ≡ length vs → length (writesIn xs vs) ≡ length xs
+unfolding writesIn
+writes-length [] vs h = refl
+writes-length (x ∷ xs) [] h = absurd (omega arith)
+writes-length (x ∷ xs) (v ∷ vs) h = ap suc (writes-length xs vs (omega arith))
+
+pub write-value : (xs vs : List ℕ) (i : ℕ) → length xs ≡ length vs → i < length xs → getD (writesIn xs vs) i (writeOf 0 0) .value ≡ getD vs i 0
+unfolding writesIn
+write-value [] vs i h l = absurd (omega arith)
+write-value (x ∷ xs) [] i h l = absurd (omega arith)
+write-value (x ∷ xs) (v ∷ vs) zero h l = refl
+write-value (x ∷ xs) (v ∷ vs) (suc i) h l = write-value xs vs i (omega arith) (omega arith)
+
 -- ---- the newest write decides first
 
-newest-snoc : (ws : List WaitingWrite) (w : WaitingWrite) (x m : ℕ) → newest (ws ++ (w ∷ [])) x m ≡ cond (eqb (w .location) x) (w .value) (newest ws x m)
-unfolding newest
-newest-snoc [] w x m = refl
-newest-snoc (u ∷ ws) w x m = newest-snoc ws w x (cond (eqb (u .location) x) (u .value) m)
+origin-snoc : (ws : List WaitingWrite) (w : WaitingWrite) (x : ℕ) → originIn (ws ++ (w ∷ [])) x ≡ cond (eqb (w .location) x) (Waiting (length ws)) (originIn ws x)
+unfolding originIn behind
+origin-snoc [] w x = refl
+origin-snoc (u ∷ ws) w x = ap (behind (eqb (u .location) x)) (origin-snoc ws w x) ∙ go (eqb (w .location) x)
+  where
+    go : (b : Bool) → behind (eqb (u .location) x) (cond b (Waiting (length ws)) (originIn ws x)) ≡ cond b (Waiting (suc (length ws))) (behind (eqb (u .location) x) (originIn ws x))
+    go true = refl
+    go false = refl
 
-newest-more : (xs vs : List ℕ) (j x m : ℕ) → j < length xs → length xs ≡ length vs
-    → newest (writesIn (take (suc j) xs) (take (suc j) vs)) x m ≡ cond (eqb (getD xs j 0) x) (getD vs j 0) (newest (writesIn (take j xs) (take j vs)) x m)
-newest-more xs vs j x m h k =
+origin-more : (xs vs : List ℕ) (j x : ℕ) → j < length xs → length xs ≡ length vs
+    → originIn (writesIn (take (suc j) xs) (take (suc j) vs)) x ≡ cond (eqb (getD xs j 0) x) (Waiting j) (originIn (writesIn (take j xs) (take j vs)) x)
+origin-more xs vs j x h k =
     let a : length (take j xs) ≡ j = length-take-le j xs (omega arith) in
     let b : length (take j vs) ≡ j = length-take-le j vs (omega arith) in
+    let c : length (writesIn (take j xs) (take j vs)) ≡ j = writes-length (take j xs) (take j vs) (a ∙ sym b) ∙ a in
     rw (take-suc xs j 0 h, take-suc vs j 0 (omega arith), writes-snoc (take j xs) (take j vs) (getD xs j 0) (getD vs j 0) (a ∙ sym b))
-    (newest-snoc (writesIn (take j xs) (take j vs)) (writeOf (getD xs j 0) (getD vs j 0)) x m)
+    (origin-snoc (writesIn (take j xs) (take j vs)) (writeOf (getD xs j 0) (getD vs j 0)) x
+    ∙ ap (λ (n : ℕ). cond (eqb (getD xs j 0) x) (Waiting n) (originIn (writesIn (take j xs) (take j vs)) x)) c)
 
--- t is what the whole lookup gives, and i writes are still to be looked at
-module _ (xs vs : List ℕ) (x m t : ℕ) (h : length xs ≡ length vs) where
-  newest-step : (i : ℕ) → 0 < i → i ≤ length xs
-      → newest (writesIn (take i xs) (take i vs)) x m ≡ cond (eqb (getD xs (i - 1) 0) x) (getD vs (i - 1) 0) (newest (writesIn (take (i - 1) xs) (take (i - 1) vs)) x m)
-  newest-step zero n k = absurd (omega arith)
-  newest-step (suc j) n k = rw sub-one (newest-more xs vs j x m (omega arith) h)
+-- i writes are still to be looked at: none of the others is to x
+pub record Passed (xs : List ℕ) (x i : ℕ) : Type 0 where
+  pub same : (vs : List ℕ) → length xs ≡ length vs → originIn (writesIn xs vs) x ≡ originIn (writesIn (take i xs) (take i vs)) x
 
-  pub found-here : (i : ℕ) → t ≡ newest (writesIn (take i xs) (take i vs)) x m → 0 < i → i ≤ length xs → getD xs (i - 1) 0 ≡ x → getD vs (i - 1) 0 ≡ t
-  found-here i inv n k e = sym (inv ∙ newest-step i n k ∙ rw (eq-eqb (getD xs (i - 1) 0) x e))
+module _ (xs : List ℕ) (x : ℕ) where
+  origin-step : (i : ℕ) → 0 < i → i ≤ length xs → (vs : List ℕ) → length xs ≡ length vs
+      → originIn (writesIn (take i xs) (take i vs)) x ≡ cond (eqb (getD xs (i - 1) 0) x) (Waiting (i - 1)) (originIn (writesIn (take (i - 1) xs) (take (i - 1) vs)) x)
+  origin-step zero n k vs h = absurd (omega arith)
+  origin-step (suc j) n k vs h = rw sub-one (origin-more xs vs j x (omega arith) h)
 
-  pub not-here : (i : ℕ) → t ≡ newest (writesIn (take i xs) (take i vs)) x m → 0 < i → i ≤ length xs → ¬ (getD xs (i - 1) 0 ≡ x)
-      → t ≡ newest (writesIn (take (i - 1) xs) (take (i - 1) vs)) x m
-  not-here i inv n k e = inv ∙ newest-step i n k ∙ rw (ne-eqb (getD xs (i - 1) 0) x e)
+  pub all-left : Passed xs x (length xs)
+  all-left = record { same = λ vs h. sym (rw (take-length xs, h, take-length vs)) }
 
-  pub none-here : t ≡ newest (writesIn (take 0 xs) (take 0 vs)) x m → m ≡ t
-  unfolding newest writesIn
-  none-here inv = sym inv
+  pub found-here : (i : ℕ) → Passed xs x i → 0 < i → i ≤ length xs → getD xs (i - 1) 0 ≡ x → Finds xs x (Waiting (i - 1))
+  found-here i inv n k e = record { says = λ vs h. sym (inv .same vs h ∙ origin-step i n k vs h ∙ rw (eq-eqb (getD xs (i - 1) 0) x e)) }
+
+  pub not-here : (i : ℕ) → Passed xs x i → 0 < i → i ≤ length xs → ¬ (getD xs (i - 1) 0 ≡ x) → Passed xs x (i - 1)
+  not-here i inv n k e = record { same = λ vs h. inv .same vs h ∙ origin-step i n k vs h ∙ rw (ne-eqb (getD xs (i - 1) 0) x e) }
+
+  pub none-here : Passed xs x 0 → Finds xs x Memory
+  unfolding originIn writesIn
+  none-here inv = record { says = λ vs h. sym (inv .same vs h) }
 
 -- ---- parts of the log
 

@@ -11,7 +11,7 @@ use Rattle.model.specs.declared.record.Record.{Record}
 use Rattle.model.specs.Sizes.{processors, locations, instructionsEach}
 use Rattle.model.specs.Machine.{WaitingWrite, writeOf}
 use Rattle.model.specs.Rules.{Event, event}
-use Rattle.model.specs.Step.{newest}
+use Rattle.model.specs.Step.{seenIn}
 use Rattle.machine_rules.specs.Steps.{stepKind}
 
 -- ---- the log of issued writes
@@ -26,11 +26,15 @@ writesIn (x ∷ xs) (v ∷ vs) = writeOf x v ∷ writesIn xs vs
 abbrev pub waitingFrom : List ℕ → List ℕ → ℕ → ℕ → ℕ → List WaitingWrite
 waitingFrom xs vs issued drained p = writesIn (slice (placeAt p drained) (placeAt p issued) xs) (slice (placeAt p drained) (placeAt p issued) vs)
 
--- the log of processor p
-pub record Log (xs vs : List ℕ) (issued drained p : ℕ) : Type 0 where
+-- of processor p's writes so many are issued, and so many drained
+pub record Part (issued drained p : ℕ) : Type 0 where
   pub processor : p < processors
   pub order : drained ≤ issued
   pub few : issued ≤ instructionsEach
+
+-- the log of processor p
+pub record Log (xs vs : List ℕ) (issued drained p : ℕ) : Type 0 where
+  pub part : Part issued drained p
   pub locations : length xs ≡ processors * instructionsEach
   pub values : length vs ≡ processors * instructionsEach
 
@@ -45,7 +49,7 @@ module _ (locations values : List ℕ) (issued drained : ℕ) where
     nextIn next =
         let p = i .processor in
         let x = i .location in
-        cond (eqb next 1) (event 1 p x (newest (waitingFrom locations values issued drained p) x memory))
+        cond (eqb next 1) (event 1 p x (seenIn (waitingFrom locations values issued drained p) x memory))
         (cond (eqb next 2) (event 2 p x (actsOf (i .kind) .issues (i .value) kept register)) (event next p 0 0))
 
     unfoldable pub offeredIn : ℕ → ℕ → Event

@@ -1,41 +1,58 @@
 // The lookup.
 ghost use mathlib.Core.Path.{_≡_};
-ghost use lib.ListN.{length};
-ghost use Rattle.model.specs.Step.{newest as newestOf};
-ghost use Rattle.machine_rules.specs.Offers.{writesIn, waitingFrom, Log};
+ghost use Rattle.model.specs.Code.{placeAt};
+ghost use Rattle.machine_rules.specs.Lookups.{Finds, FindsIn, valueAt, Reaches};
+ghost use Rattle.machine_rules.specs.Offers.{Part};
+use model::origin::Origin;
 use model::table::Program;
 
-// The newest of these waiting writes to x or, with none, what is in memory.
-pub fn newest(locations: &[u8], values: &[u32], x: u8, memory: u32) -> u32
-    requires { ⌜ length (now locations) ≡ length (now values) ⌝ }
-    ensures { λ r. ⌜ r ≡ newestOf (writesIn (now (locations .entry)) (now (values .entry))) x memory ⌝ }
+// Where a read of x gets its value, if writes to these locations wait: the newest of them to x or, with none, memory.
+fn newest(locations: &[u8], x: u8) -> Origin
+    ensures { λ r. ⌜ Finds (now (locations .entry)) x r ⌝ }
 {
     let mut i = locations.len();
     while 0 < i {
         i -= 1;
         if locations[i] == x {
-            return values[i];
+            return Origin::Waiting(i);
         }
     }
-    memory
+    Origin::Memory
 }
 
-// What processor p sees at x, which holds `memory`.
-pub fn seen(
+// Where processor p's read of x gets its value.
+pub fn origin(
     locations: &[u8; Program::PLACES],
-    values: &[u32; Program::PLACES],
     issued: usize,
     drained: usize,
     p: usize,
     x: u8,
-    memory: u32,
-) -> u32
-    requires { ⌜ Log (now locations) (now values) issued drained p ⌝ }
-    ensures { λ r. ⌜ r ≡ newestOf (waitingFrom (now (locations .entry)) (now (values .entry)) issued drained p) x memory ⌝ }
+) -> Origin
+    requires { ⌜ Part issued drained p ⌝ }
+    ensures { λ r. ⌜ FindsIn (now (locations .entry)) issued drained p x r ⌝ }
 {
     let from = Program::INSTRUCTIONS * p + drained;
     let to = Program::INSTRUCTIONS * p + issued;
     let xs = &locations[..];
-    let vs = &values[..];
-    newest(&xs[from..to], &vs[from..to], x, memory)
+    newest(&xs[from..to], x)
+}
+
+// The value there, where the location holds `memory`.
+pub fn value(
+    values: &[u32; Program::PLACES],
+    drained: usize,
+    p: usize,
+    from: Origin,
+    memory: u32,
+) -> u32
+    requires { ⌜ Reaches from (placeAt p drained) ⌝ }
+    ensures { λ r. ⌜ r ≡ valueAt (now (values .entry)) (placeAt p drained) from memory ⌝ }
+{
+    match from {
+        Origin::Memory => memory,
+        Origin::Waiting(position) => {
+            let oldest = Program::INSTRUCTIONS * p + drained;
+            values[oldest + position]
+        }
+    }
 }

@@ -7,7 +7,7 @@ use lib.ListN.{length, getD, set}
 use lib.Dec.{lit<}
 use lib.Seq.{take-set-lt, getD-take, getD-set-same, getD-set-other}
 use Rattle.model.proofs.Rows.{slice-get, slice-set-in, slice-set-past, slice-set-before}
-use Rattle.machine_state.specs.Packed.{memoryAt, keptAt, registersIn, memoryIn, keptIn, standsAt, phaseAt, issuedAt, drainedAt, holderIn, freeIn, atIn, phaseIn, issuedIn, drainedIn}
+use Rattle.machine_state.specs.Packed.{memoryAt, keptAt, registersIn, memoryIn, keptIn, standsAt, phaseAt, issuedAt, drainedAt, holderIn, ownIn, freeIn, atIn, phaseIn, issuedIn, drainedIn}
 
 -- ---- the cells: where one of the registers, of memory, of what is kept is set
 
@@ -26,66 +26,85 @@ module _ (cells : List ℕ) (v : ℕ) where
 
 -- ---- the marks: where one of a processor's is set
 
-abbrev pub MarksAre : (marks at phase issued drained : List ℕ) (holder : ℕ) (free : List ℕ) → Type 0
-MarksAre marks at phase issued drained holder free =
-    (atIn marks ≡ at) × (phaseIn marks ≡ phase) × (issuedIn marks ≡ issued) × (drainedIn marks ≡ drained) × (holderIn marks ≡ holder) × (freeIn marks ≡ free)
+abbrev pub MarksAre : (marks at phase issued drained : List ℕ) (holder own : ℕ) (free : List ℕ) → Type 0
+MarksAre marks at phase issued drained holder own free =
+    (atIn marks ≡ at) × (phaseIn marks ≡ phase) × (issuedIn marks ≡ issued) × (drainedIn marks ≡ drained) × (holderIn marks ≡ holder) × (ownIn marks ≡ own) × (freeIn marks ≡ free)
 
 module _ (marks : List ℕ) (v : ℕ) where
-  -- a mark of a processor is behind the holder and the free ones
+  -- a mark of a processor is behind the holder, the reads that own buffers served and the free ones
   holder-kept : (k : ℕ) → 4 ≤ k → holderIn (set marks k v) ≡ holderIn marks
   holder-kept k h = getD-set-other marks k 0 v 0 (λ z. absurd (omega (arith, z)))
 
-  free-kept : (k : ℕ) → 4 ≤ k → freeIn (set marks k v) ≡ freeIn marks
-  free-kept k h = slice-set-past 1 4 k v marks h
+  own-kept : (k : ℕ) → 4 ≤ k → ownIn (set marks k v) ≡ ownIn marks
+  own-kept k h = getD-set-other marks k 1 v 0 (λ z. absurd (omega (arith, z)))
 
-  pub at-set : (p : ℕ) → p < 4 → MarksAre (set marks (standsAt p) v) (set (atIn marks) p v) (phaseIn marks) (issuedIn marks) (drainedIn marks) (holderIn marks) (freeIn marks)
+  free-kept : (k : ℕ) → 4 ≤ k → freeIn (set marks k v) ≡ freeIn marks
+  free-kept k h = slice-set-past 2 4 k v marks h
+
+  pub at-set : (p : ℕ) → p < 4 → MarksAre (set marks (standsAt p) v) (set (atIn marks) p v) (phaseIn marks) (issuedIn marks) (drainedIn marks) (holderIn marks) (ownIn marks) (freeIn marks)
   at-set p h = (
     slice-set-in 4 8 p v marks (omega arith),
     slice-set-before 8 12 (4 + p) v marks (omega arith),
     slice-set-before 12 16 (4 + p) v marks (omega arith),
     slice-set-before 16 20 (4 + p) v marks (omega arith),
     holder-kept (4 + p) (omega arith),
+    own-kept (4 + p) (omega arith),
     free-kept (4 + p) (omega arith),
   )
 
-  pub phase-set : (p : ℕ) → p < 4 → MarksAre (set marks (phaseAt p) v) (atIn marks) (set (phaseIn marks) p v) (issuedIn marks) (drainedIn marks) (holderIn marks) (freeIn marks)
+  pub phase-set : (p : ℕ) → p < 4 → MarksAre (set marks (phaseAt p) v) (atIn marks) (set (phaseIn marks) p v) (issuedIn marks) (drainedIn marks) (holderIn marks) (ownIn marks) (freeIn marks)
   phase-set p h = (
     slice-set-past 4 8 (8 + p) v marks (omega arith),
     slice-set-in 8 12 p v marks (omega arith),
     slice-set-before 12 16 (8 + p) v marks (omega arith),
     slice-set-before 16 20 (8 + p) v marks (omega arith),
     holder-kept (8 + p) (omega arith),
+    own-kept (8 + p) (omega arith),
     free-kept (8 + p) (omega arith),
   )
 
-  pub issued-set : (p : ℕ) → p < 4 → MarksAre (set marks (issuedAt p) v) (atIn marks) (phaseIn marks) (set (issuedIn marks) p v) (drainedIn marks) (holderIn marks) (freeIn marks)
+  pub issued-set : (p : ℕ) → p < 4 → MarksAre (set marks (issuedAt p) v) (atIn marks) (phaseIn marks) (set (issuedIn marks) p v) (drainedIn marks) (holderIn marks) (ownIn marks) (freeIn marks)
   issued-set p h = (
     slice-set-past 4 8 (12 + p) v marks (omega arith),
     slice-set-past 8 12 (12 + p) v marks (omega arith),
     slice-set-in 12 16 p v marks (omega arith),
     slice-set-before 16 20 (12 + p) v marks (omega arith),
     holder-kept (12 + p) (omega arith),
+    own-kept (12 + p) (omega arith),
     free-kept (12 + p) (omega arith),
   )
 
-  pub drained-set : (p : ℕ) → p < 4 → MarksAre (set marks (drainedAt p) v) (atIn marks) (phaseIn marks) (issuedIn marks) (set (drainedIn marks) p v) (holderIn marks) (freeIn marks)
+  pub drained-set : (p : ℕ) → p < 4 → MarksAre (set marks (drainedAt p) v) (atIn marks) (phaseIn marks) (issuedIn marks) (set (drainedIn marks) p v) (holderIn marks) (ownIn marks) (freeIn marks)
   drained-set p h = (
     slice-set-past 4 8 (16 + p) v marks (omega arith),
     slice-set-past 8 12 (16 + p) v marks (omega arith),
     slice-set-past 12 16 (16 + p) v marks (omega arith),
     slice-set-in 16 20 p v marks (omega arith),
     holder-kept (16 + p) (omega arith),
+    own-kept (16 + p) (omega arith),
     free-kept (16 + p) (omega arith),
   )
 
-  pub holder-set : 0 < length marks → MarksAre (set marks 0 v) (atIn marks) (phaseIn marks) (issuedIn marks) (drainedIn marks) v (freeIn marks)
+  pub holder-set : 0 < length marks → MarksAre (set marks 0 v) (atIn marks) (phaseIn marks) (issuedIn marks) (drainedIn marks) v (ownIn marks) (freeIn marks)
   holder-set h = (
     slice-set-before 4 8 0 v marks (lit< tt),
     slice-set-before 8 12 0 v marks (lit< tt),
     slice-set-before 12 16 0 v marks (lit< tt),
     slice-set-before 16 20 0 v marks (lit< tt),
     getD-set-same marks 0 v 0 h,
-    slice-set-before 1 4 0 v marks (lit< tt),
+    getD-set-other marks 0 1 v 0 (λ z. absurd (omega (arith, z))),
+    slice-set-before 2 4 0 v marks (lit< tt),
+  )
+
+  pub own-set : 1 < length marks → MarksAre (set marks 1 v) (atIn marks) (phaseIn marks) (issuedIn marks) (drainedIn marks) (holderIn marks) v (freeIn marks)
+  own-set h = (
+    slice-set-before 4 8 1 v marks (lit< tt),
+    slice-set-before 8 12 1 v marks (lit< tt),
+    slice-set-before 12 16 1 v marks (lit< tt),
+    slice-set-before 16 20 1 v marks (lit< tt),
+    getD-set-other marks 1 0 v 0 (λ z. absurd (omega (arith, z))),
+    getD-set-same marks 1 v 0 h,
+    slice-set-before 2 4 1 v marks (lit< tt),
   )
 
 -- ---- what the theory finds in a row, the code finds in the array

@@ -30,10 +30,13 @@ keptIn cells = slice 24 28 cells
 unfoldable pub cellsIn : List ℕ → Cells
 cellsIn cells = cellsOf (registersIn cells) (memoryIn cells)
 
--- ---- marks: the holder, three that are free, and four of each processor
+-- ---- marks: the holder, how many reads own buffers served, two that are free, and four of each processor
 
 abbrev pub holderAt : ℕ
 holderAt = 0
+
+abbrev pub ownAt : ℕ
+ownAt = 1
 
 abbrev pub standsAt : ℕ → ℕ
 standsAt p = 4 + p
@@ -50,8 +53,11 @@ drainedAt p = 16 + p
 abbrev pub holderIn : List ℕ → ℕ
 holderIn marks = getD marks holderAt 0
 
+abbrev pub ownIn : List ℕ → ℕ
+ownIn marks = getD marks ownAt 0
+
 abbrev pub freeIn : List ℕ → List ℕ
-freeIn marks = slice 1 4 marks
+freeIn marks = slice 2 4 marks
 
 abbrev pub atIn : List ℕ → List ℕ
 atIn marks = slice 4 8 marks
@@ -68,7 +74,7 @@ drainedIn marks = slice 16 20 marks
 unfoldable pub stateIn : (cells locations values marks : List ℕ) → State
 stateIn cells locations values marks =
     parts (registersIn cells) (memoryIn cells) (keptIn cells) (atIn marks) (phaseIn marks) locations values (issuedIn marks) (drainedIn marks) (holderIn marks)
-    (freeIn marks)
+    (ownIn marks) (freeIn marks)
 
 -- ---- codes: kinds, registers, locations, counts
 

@@ -13,10 +13,11 @@ pub record State : Type 0 where
   pub issued : List ℕ  -- how many writes are issued
   pub drained : List ℕ
   pub holder : ℕ  -- of the lock
+  pub own : ℕ  -- how many reads own buffers served
   pub free : List ℕ  -- what no step looks at
 
-abbrev pub parts : (registers memory kept at phase locations values issued drained : List ℕ) (holder : ℕ) (free : List ℕ) → State
-parts registers memory kept at phase locations values issued drained holder free = record {
+abbrev pub parts : (registers memory kept at phase locations values issued drained : List ℕ) (holder own : ℕ) (free : List ℕ) → State
+parts registers memory kept at phase locations values issued drained holder own free = record {
   registers = registers;
   memory = memory;
   kept = kept;
@@ -27,5 +28,6 @@ parts registers memory kept at phase locations values issued drained holder free
   issued = issued;
   drained = drained;
   holder = holder;
+  own = own;
   free = free;
 }

@@ -4,11 +4,13 @@ use mathlib.Core.List.{List}
 use Prim.Native.Nat.{ℕ, _+_, _≤_, _<_}
 use lib.ListN.{getD, set}
 use lib.Dec.{eqb}
+use Rattle.model.specs.declared.origin.Origin.{Origin}
+use Rattle.model.specs.declared.origin.Origin.the-variants.{Memory, Waiting}
 use Rattle.model.specs.Code.{placeAt, actsOf}
 use Rattle.model.specs.Kinds.{tableRows}
-use Rattle.model.specs.Sizes.{processors, locations, instructionsEach, phases}
+use Rattle.model.specs.Sizes.{processors, locations, instructionsEach, phases, longestTrace}
 use Rattle.machine_rules.specs.Steps.{stepCount}
-use Rattle.machine_state.specs.Packed.{keptAt, standsAt, phaseAt, issuedAt, drainedAt}
+use Rattle.machine_state.specs.Packed.{ownAt, keptAt, standsAt, phaseAt, issuedAt, drainedAt}
 
 abbrev pub received : List ℕ → ℕ → ℕ → ℕ → ℕ → List ℕ
 received cells kind p c v = cond (actsOf kind .loads) (set cells c v) (set cells (keptAt p) v)
@@ -25,6 +27,11 @@ oneMoreIssued marks p = set marks (issuedAt p) (getD marks (issuedAt p) 0 + 1)
 abbrev pub oneMoreDrained : List ℕ → ℕ → List ℕ
 oneMoreDrained marks p = set marks (drainedAt p) (getD marks (drainedAt p) 0 + 1)
 
+-- a read, by where it got its value
+abbrev pub counted : List ℕ → Origin → List ℕ
+counted marks Memory = marks
+counted marks (Waiting position) = set marks ownAt (getD marks ownAt 0 + 1)
+
 -- past one program step: the next one of the instruction or, after its last, the next instruction
 abbrev pub isLast : List ℕ → ℕ → ℕ → Bool
 isLast marks kind p = eqb (getD marks (phaseAt p) 0 + 1) (stepCount kind)
@@ -40,6 +47,10 @@ advanced marks kind p =
 pub record Issuable (marks : List ℕ) (p : ℕ) : Type 0 where
   pub processor : p < processors
   pub few : getD marks (issuedAt p) 0 < instructionsEach
+
+-- there is a read to count
+abbrev pub Countable : List ℕ → Type 0
+Countable marks = getD marks ownAt 0 < longestTrace
 
 -- there is a write to drain
 pub record Drainable (marks : List ℕ) (p x : ℕ) : Type 0 where

@@ -3,11 +3,12 @@ ghost use mathlib.Core.Path.{_≡_};
 ghost use Prim.Native.Nat.{_<_};
 ghost use lib.ListN.{set};
 ghost use Rattle.machine_state.specs.Packed.{memoryAt};
-ghost use Rattle.machine_store.specs.Stores.{received, exchanged, nextPlace, oneMoreIssued, oneMoreDrained, advanced, Issuable, Drainable, Onward};
+ghost use Rattle.machine_store.specs.Stores.{received, counted, exchanged, nextPlace, oneMoreIssued, oneMoreDrained, advanced, Issuable, Countable, Drainable, Onward};
 use machine_rules::program;
 use machine_state::state::Machine;
 use model::kind::Role;
 use model::kind::role_of;
+use model::origin::Origin;
 use model::table::Cells;
 use model::table::Program;
 
@@ -19,6 +20,17 @@ pub fn receive(cells: &mut [u32; Machine::CELLS], kind: u8, p: usize, c: usize, 
     match role_of(kind) {
         Role::Load => cells[c] = v,
         _ => cells[Machine::KEPT + p] = v,
+    }
+}
+
+// A read that the own buffer served is counted.
+pub fn count(marks: &mut [usize; Machine::MARKS], from: Origin)
+    requires { ⌜ Countable (now marks) ⌝ }
+    ensures { λ _. ⌜ now (marks .exit) ≡ counted (now (marks .entry)) from ⌝ }
+{
+    match from {
+        Origin::Waiting(position) => marks[Machine::OWN] = marks[Machine::OWN] + 1,
+        Origin::Memory => {}
     }
 }
 

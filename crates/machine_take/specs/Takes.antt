@@ -14,12 +14,13 @@ use Rattle.model.specs.Code.{registerAt, placeAt, actsOf, taken, judged}
 use Rattle.model.specs.declared.record.Record.{Record}
 use Rattle.model.specs.Sizes as sizes
 use Rattle.model.specs.Sizes.{processors, registersEach}
+use Rattle.model.specs.Machine.{WaitingWrite}
 use Rattle.model.specs.Rules.{conditions}
-use Rattle.model.specs.Step.{newest, firstMet}
+use Rattle.model.specs.Step.{originIn, seenIn, firstMet}
 use Rattle.machine_rules.specs.Guards.{blockedIn}
 use Rattle.machine_rules.specs.Offers.{waitingFrom, Log}
 use Rattle.machine_state.specs.Packed.{memoryAt, keptAt, issuedAt, drainedAt, holderAt, holderIn}
-use Rattle.machine_store.specs.Stores.{received, exchanged, nextPlace, oneMoreIssued, oneMoreDrained, Issuable}
+use Rattle.machine_store.specs.Stores.{received, counted, exchanged, nextPlace, oneMoreIssued, oneMoreDrained, Issuable, Countable}
 
 -- the event names location y and value w
 abbrev pub names : Record → ℕ → ℕ → Bool
@@ -68,17 +69,21 @@ pub record MayDrain (locations values marks : List ℕ) (e : Record) : Type 0 wh
 
 -- ---- read
 
-abbrev pub readRight : (cells locations values marks : List ℕ) → Record → Record → Bool
-readRight cells locations values marks i e =
-    let p = e .processor in
-    names e (i .location) (newest (waitingFrom locations values (getD marks (issuedAt p) 0) (getD marks (drainedAt p) 0) p) (i .location) (getD cells (memoryAt (i .location)) 0))
+-- what waits for processor p
+abbrev pub waitsIn : (locations values marks : List ℕ) → ℕ → List WaitingWrite
+waitsIn locations values marks p = waitingFrom locations values (getD marks (issuedAt p) 0) (getD marks (drainedAt p) 0) p
 
-pub record Reads (cells locations values marks : List ℕ) (i e : Record) (r : Attempt) (cells' : List ℕ) : Type 0 where
+abbrev pub readRight : (cells locations values marks : List ℕ) → Record → Record → Bool
+readRight cells locations values marks i e = names e (i .location) (seenIn (waitsIn locations values marks (e .processor)) (i .location) (getD cells (memoryAt (i .location)) 0))
+
+pub record Reads (cells locations values marks : List ℕ) (i e : Record) (r : Attempt) (cells' marks' : List ℕ) : Type 0 where
   pub says : r ≡ attempted 1 marks (e .processor) (readRight cells locations values marks i e)
   pub cellsAfter : cells' ≡ cond (taken r) (received cells (i .kind) (e .processor) (cellOf i e) (e .value)) cells
+  pub marksAfter : marks' ≡ cond (taken r) (counted marks (originIn (waitsIn locations values marks (e .processor)) (i .location))) marks
 
 pub record MayRead (locations values marks : List ℕ) (i e : Record) : Type 0 where
   pub log : LogOf locations values marks (e .processor)
+  pub count : Countable marks
   pub register : i .register < registersEach
   pub location : i .location < sizes.locations
 

@@ -15,20 +15,21 @@ pub fn read<'a>(
     cells: &'a mut [u32; Machine::CELLS],
     locations: &'a [u8; Program::PLACES],
     values: &'a [u32; Program::PLACES],
-    marks: &'a [usize; Machine::MARKS],
+    marks: &'a mut [usize; Machine::MARKS],
     i: Record,
     e: Record,
 ) -> Attempt
     requires { ⌜ MayRead (now locations) (now values) (now marks) i e ⌝ }
     ensures { λ r. ⌜ Reads (now (cells .entry)) (now (locations .entry)) (now (values .entry)) (now (marks .entry)) i e
-        r (now (cells .exit)) ⌝ }
+        r (now (cells .exit)) (now (marks .exit)) ⌝ }
 {
     let p = e.processor as usize;
     let held = guards::blocked(marks[Machine::HOLDER], p);
     let n = marks[Machine::ISSUED + p];
     let d = marks[Machine::DRAINED + p];
     let cell = Machine::MEMORY + (i.location as usize);
-    let seen = waiting::seen(locations, values, n, d, p, i.location, cells[cell]);
+    let from = waiting::origin(locations, n, d, p, i.location);
+    let seen = waiting::value(values, d, p, from, cells[cell]);
     let right = (e.location == i.location) & (e.value == seen);
     if held {
         return Attempt::Turned(Refusal::StepRule(Condition::LockHeld));
@@ -36,6 +37,7 @@ pub fn read<'a>(
     if right {
         let c = Cells::REGISTERS * p + (i.register as usize);
         machine_store::receive(cells, i.kind, p, c, e.value);
+        machine_store::count(marks, from);
         return Attempt::Taken;
     }
     Attempt::Turned(Refusal::StepRule(Condition::NotRight))

@@ -69,7 +69,7 @@ module _ (s : Machine) (orderly : Orderly s) where
   Some e = (t : Machine) × Allowed s e t
 
   in-memory : (e : Event) → Clear s e → Right s e → Some e
-  in-memory e c (ofRead h u) = (_, Read c h)
+  in-memory e c (ofRead h u) = (_, Read c h u)
   in-memory e c (ofWrite h i) = (_, Write c h)
   in-memory e c (ofDrain h) = (_, Drain c h)
 

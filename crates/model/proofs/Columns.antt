@@ -1,12 +1,13 @@
 -- Programs in columns: what is left of one, step by step, and one instruction more.
 use mathlib.Core.Path.{_≡_, refl, sym, ap, _∙_}
 use mathlib.Core.List.{List, _∷_, _++_, append-assoc, append-nil}
-use Prim.Native.Nat.{ℕ, zero, suc, _+_, _≤_, _<_}
+use Prim.Native.Nat.{ℕ, zero, suc, _+_, _*_, _≤_, _<_}
 use native.Mathlib.Omega.{arith}
 use native.Mathlib.Nat.{add-zero}
-use lib.ListN.{length, getD, drop}
+use lib.ListN.{length, getD, drop, length-append}
 use lib.Dec.{lit≤}
 use lib.Seq.{drop-cons, drop-append-le, drop-append-seam}
+use Rattle.model.specs.Sizes.{phases}
 use Rattle.model.specs.Program.{ProgramStep, fence}
 use Rattle.model.specs.Kinds.{Entry, initialMemory, initialRegister, instruction, entryOf}
 use Rattle.model.specs.Left.{writes}
@@ -31,6 +32,14 @@ few-writes g p a (suc n) =
     let r = few-writes g p (suc a) n in
     let w = entry-weight (entryOf (instructionAt g p a)) .1 in
     rw (writes-append (stepsAt g p a) (stepsFrom g p (suc a) n)) (omega arith)
+
+pub few-steps : (g : Columns) (p a n : ℕ) → length (stepsFrom g p a n) ≤ phases * n
+unfolding stepsFrom
+few-steps g p a zero = omega arith
+few-steps g p a (suc n) =
+    let r = few-steps g p (suc a) n in
+    let w = entry-weight (entryOf (instructionAt g p a)) .0 in
+    rw (length-append (stepsAt g p a) (stepsFrom g p (suc a) n)) (omega arith)
 
 -- ---- what is left at instruction a, of which f steps are taken, where n instructions come after it
 

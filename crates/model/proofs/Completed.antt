@@ -10,13 +10,13 @@ use Rattle.model.specs.Record.{records, fileOf}
 use Rattle.model.specs.Kinds.{Entry}
 use Rattle.model.specs.Table.{Whole, Readable, start}
 use Rattle.model.specs.Machine.{Machine}
-use Rattle.model.specs.Rules.{Event, Run}
+use Rattle.model.specs.Rules.{Event, Run, ownReads}
 use Rattle.model.specs.Left.{left}
 use Rattle.model.specs.Finish.{completion}
 use Rattle.model.specs.Reply.{Reply, done, words}
 use Rattle.model.specs.Calls.{checked, completed}
 use Rattle.model.specs.Numbers.{Follows, Finishes}
-use Rattle.model.specs.Promises.{Bytes, Lent, Completes, Added, stepsIn, Demand3, NotEleven, FinishMeets}
+use Rattle.model.specs.Promises.{Bytes, Lent, Completes, Added, wordsOf, stepsIn, Demand3, NotEleven, FinishMeets}
 use Rattle.model.proofs.Runs.{run-append, finished-length}
 use Rattle.model.proofs.Words.{file-length}
 use Rattle.model.proofs.Bytes.{length-records, records-append, records-file}
@@ -37,12 +37,13 @@ completes-run entries es s r =
 -- steps that complete the run of a trace check as finished behind it
 checks-behind : (table trace steps lent : List ℕ) (entries : List Entry) (k : ℕ) → Readable table entries → Whole trace → Whole steps
     → (c : Completes (start entries) k (records trace ++ records steps)) → resultWords ≤ length lent
-    → checked table (trace ++ steps) lent ≡ done k (words (c .end) ++ drop resultWords lent)
+    → checked table (trace ++ steps) lent ≡ done k (wordsOf c ++ drop resultWords lent)
 checks-behind table trace steps lent entries k readable whole wholes c l =
     let read : records (trace ++ steps) ≡ records trace ++ records steps = records-append trace steps whole in
     let both : Whole (trace ++ steps) = simp length-append (omega arith) in
-    check-meets table (trace ++ steps) lent _ refl .demand2 entries readable both .reports l (c .end) (rw read (c .run)) (c .finished)
-    ∙ ap (λ (n : ℕ). done n (words (c .end) ++ drop resultWords lent)) (ap (λ (es : List Event). length es) read ∙ c .steps)
+    subst (λ (es : List Event). (run : Run (start entries) es (c .end)) → checked table (trace ++ steps) lent ≡ done (length es) (words (c .end) (ownReads (start entries) es (c .end) run) ++ drop resultWords lent))
+    read (λ run. check-meets table (trace ++ steps) lent _ refl .demand2 entries readable both .reports l (c .end) run (c .finished)) (c .run)
+    ∙ ap (λ (n : ℕ). done n (wordsOf c ++ drop resultWords lent)) (c .steps)
 
 finish-not-eleven : (table trace room : List ℕ) (r : Reply) → Finishes table trace room r → NotEleven r
 finish-not-eleven table trace room r (Finishes.stopped {n} {i} s) h = stops-number table trace n i s .1 h

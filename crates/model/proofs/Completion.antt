@@ -18,7 +18,7 @@ use Rattle.model.proofs.Finish.{finishing-allowed, finishing-is-run, fi
 
 -- an allowed step with something waiting is a drain exactly when its kind says so
 drain-waits : (s : Machine) (e : Event) (t : Machine) → Allowed s e t → e .kind ≡ 3 → ¬ (processor s (e .processor) .waiting ≡ [])
-drain-waits s e t (Read c h) k w = omega arith
+drain-waits s e t (Read c h u) k w = omega arith
 drain-waits s e t (Write c h) k w = omega arith
 drain-waits s e t (Drain c h) k w = nil≢cons (sym w ∙ h)
 drain-waits s e t (Fence c h) k w = omega arith

@@ -14,12 +14,12 @@ use Rattle.model.specs.Lists.{All}
 use Rattle.model.specs.Fields.{Known}
 use Rattle.model.specs.Kinds.{stepUses}
 use Rattle.model.specs.Program.{ProgramStep, read, write, fence, lock, unlock, local}
-use Rattle.model.specs.Machine.{Machine, WaitingWrite, processor, cell}
+use Rattle.model.specs.Machine.{Machine, WaitingWrite, processor}
 use Rattle.model.specs.Rules.{Event, R, W, D, kindOf, Right, ofRead, ofWrite, ofDrain, Met, conditions, FirstMet, here, later, Clear}
-use Rattle.model.specs.Step.{isEmpty, same, seen, drainMove, nextMove, moveFor, isSo, met, firstMet}
+use Rattle.model.specs.Step.{isEmpty, same, drainMove, nextMove, moveFor, isSo, met, firstMet}
 use Rattle.model.proofs.Tests.{some-inj, none-some}
 use Rattle.model.proofs.Bools.{false-true, fails, failed, unless-so, same-true, same-refl, blocked-test, empty-test}
-use Rattle.model.proofs.Sees.{newest-seen, sees-newest}
+use Rattle.model.proofs.Sees.{seen-sees, sees-seen}
 use Rattle.model.proofs.Rows.{below}
 
 -- ---- the first of some conditions, each decided by a test
@@ -91,7 +91,7 @@ module _ (s : Machine) (e : Event) where
   right-next : e .kind < 3 → (todo : List ProgramStep) → processor s p .todo ≡ todo → isSo (same e) (nextMove s p todo) ≡ true → Right s e
   unfolding isSo nextMove
   right-next k [] h t = false-true t
-  right-next k (read x to ∷ rest) h t = subst (Right s) (sym (same-true e _ t)) (ofRead h (newest-seen (processor s p .waiting) x (cell s x)))
+  right-next k (read x to ∷ rest) h t = subst (Right s) (sym (same-true e _ t)) (ofRead h (seen-sees s p x))
   right-next k (write x from ∷ rest) h t = subst (Right s) (sym (same-true e _ t)) (ofWrite h refl)
   right-next k (fence ∷ rest) h t = absurd (omega (arith, ap (λ (o : Event). o .kind) (same-true e _ t)))
   right-next k (lock ∷ rest) h t = absurd (omega (arith, ap (λ (o : Event). o .kind) (same-true e _ t)))
@@ -104,8 +104,8 @@ module _ (s : Machine) (e : Event) where
   right-oldest (w ∷ ws) h t = subst (Right s) (sym (same-true e _ t)) (ofDrain h)
 
 pub right-offered : (s : Machine) (e : Event) → Right s e → isSo (same e) (moveFor s e) ≡ true
-unfolding isSo moveFor nextMove drainMove seen
-right-offered s e (ofRead {p} {x} {v} h u) = rw (h, sees-newest (processor s p .waiting) x (cell s x) v u) (same-refl (R p x v))
+unfolding isSo moveFor nextMove drainMove
+right-offered s e (ofRead {p} {x} {v} {from = from} h u) = rw (h, sees-seen s p x v from u) (same-refl (R p x v))
 right-offered s e (ofWrite {p} {x} {v} h i) = rw (h, i) (same-refl (W p x v))
 right-offered s e (ofDrain {p} {x} {v} h) = rw h (same-refl (D p x v))
 

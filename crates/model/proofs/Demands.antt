@@ -10,7 +10,7 @@ use Rattle.model.specs.Record.{records}
 use Rattle.model.specs.Kinds.{Entry}
 use Rattle.model.specs.Table.{Whole, Readable, start}
 use Rattle.model.specs.Machine.{Machine}
-use Rattle.model.specs.Rules.{Event, FirstMet, conditions, conditionNumber, Run}
+use Rattle.model.specs.Rules.{Event, FirstMet, conditions, conditionNumber, Run, ownReads}
 use Rattle.model.specs.Left.{Finished}
 use Rattle.model.specs.Reply.{Reply, done, refuse, words}
 use Rattle.model.specs.Calls.{checked}
@@ -94,7 +94,9 @@ module _ (table trace room : List ℕ) (entries : List Entry) (readable : Readab
     follows : (events : List Event) (s : Machine) → Run (start entries) events s → Follows table trace events s
     follows events s run = record { entries = entries; readable = readable; whole = whole; run = run }
 
-    reports : resultWords ≤ length room → (s : Machine) → Run (start entries) (records trace) s → Finished s → r ≡ done (length (records trace)) (words s ++ drop resultWords room)
+    reports : resultWords ≤ length room → (s : Machine) (run : Run (start entries) (records trace) s) → Finished s
+        → r ≡ done (length (records trace)) (words s (ownReads (start entries) (records trace) s run) ++ drop resultWords room)
+    unfolding follows
     reports l s run finished = gives _ (Checks.finished (follows (records trace) s run) finished l)
 
     turns : (c : Condition) (i : ℕ) → TurnedAt entries (records trace) c i → r ≡ refuse (conditionNumber c) i room

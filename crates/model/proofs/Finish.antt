@@ -9,14 +9,14 @@ use Rattle.model.specs.declared.answer.Condition.the-variants.{AnotherKi
 use Rattle.model.specs.Program.{ProgramStep, read, write, fence, lock, unlock, local}
 use Rattle.model.specs.Kinds.{Entry}
 use Rattle.model.specs.Table.{start}
-use Rattle.model.specs.Machine.{Machine, WaitingWrite, processor, cell}
+use Rattle.model.specs.Machine.{Machine, WaitingWrite, processor}
 use Rattle.model.specs.Rules.{Event, event, kindOf, Blocked, ofRead, ofWrite, ofDrain, Met, conditions, Allowed, Read, Write, Drain, Fence, Lock, Unlock, Local, Run}
 use Rattle.model.specs.Step.{Move, nextMove}
 use Rattle.model.specs.Left.{left, Done, Finished, Mover, FinishingStep, drains, goesOn, FinishingRun}
 use Rattle.model.specs.Finish.{mover, drainOrNext, finishingMove, finishing, completion}
 use Rattle.model.specs.Orderly.{Orderly}
 use Rattle.model.specs.Promises.{Completes}
-use Rattle.model.proofs.Sees.{newest-seen}
+use Rattle.model.proofs.Sees.{seen-sees}
 use Rattle.model.proofs.Clears.{unlock-held, lock-free}
 use Rattle.model.proofs.Left.{one-less, zero-finished}
 use Rattle.model.proofs.Orderly.{orderly-kept}
@@ -44,7 +44,7 @@ module _ (s : Machine) (p : ℕ) (orderly : Orderly s) (busy : ¬ Done (processo
   unfolding nextMove conditions
   choose-next [] h = absurd (busy (h, w))
   choose-next (read x to ∷ rest) h =
-      record { move = _; given = refl; whose = refl; allowed = Read (is-next _ rest h, (n, (λ m. m (ofRead h (newest-seen (processor s p .waiting) x (cell s x))), tt))) h }
+      record { move = _; given = refl; whose = refl; allowed = Read (is-next _ rest h, (n, (λ m. m (ofRead h (seen-sees s p x)), tt))) h (seen-sees s p x) }
   choose-next (write x from ∷ rest) h = record { move = _; given = refl; whose = refl; allowed = Write (is-next _ rest h, (λ m. m (ofWrite h refl), tt)) h }
   choose-next (fence ∷ rest) h = record { move = _; given = refl; whose = refl; allowed = Fence (is-next _ rest h, (is-empty, tt)) h }
   choose-next (lock ∷ rest) h = record { move = _; given = refl; whose = refl; allowed = Lock (is-next _ rest h, (n, (is-empty, tt))) h (lock-free s orderly p rest h n) }

@@ -1,21 +1,18 @@
 -- In a run every location is one of the eight, and every value is a `Value`, as those of the table are: 0 and the sums, which are reduced, have to be.
 -- It is used with "below 2^32", for a table of bytes, and with "anything".
 use mathlib.Core.Path.{_≡_, subst}
-use mathlib.Core.Bool.{Bool, true, false, cond}
-use mathlib.Core.List.{List, [], _∷_}
+use mathlib.Core.List.{List, _∷_}
 use Prim.Native.Nat.{ℕ, _+_, _%_, _<_}
 use native.Mathlib.Omega.{arith}
 use lib.ListN.{getD, set}
-use lib.Dec.{eqb}
+use Rattle.model.specs.declared.origin.Origin.{Origin}
 use Rattle.model.specs.Sizes.{locations, values}
 use Rattle.model.specs.Lists.{All}
 use Rattle.model.specs.Program.{ProgramStep, read, write, fence, lock, unlock, local, Target, into, aside, Source, constant, register, swapped, added}
-use Rattle.model.specs.Machine.{Machine, Processor, WaitingWrite, processor, idle, cell, inRegister, issued, exchanged, advanced, assigned, received, wrote, drained, withProcessor, withCell, withHolder}
-use Rattle.model.specs.Rules.{Event, Allowed, Read, Write, Drain, Fence, Lock, Unlock, Local}
-use Rattle.model.specs.Step.{newest}
-use Rattle.model.proofs.Lists.{each, all-append}
-use Rattle.model.proofs.Sees.{sees-newest}
-use Rattle.model.proofs.Steps.{read-sees, write-issues}
+use Rattle.model.specs.Machine.{Machine, Processor, WaitingWrite, writeOf, processor, idle, cell, inRegister, issued, exchanged, advanced, assigned, received, wrote, drained, withProcessor, withCell, withHolder}
+use Rattle.model.specs.Rules.{Event, Sees, fromBuffer, fromMemory, Allowed, Read, Write, Drain, Fence, Lock, Unlock, Local}
+use Rattle.model.proofs.Lists.{each, all-append, all-middle}
+use Rattle.model.proofs.Steps.{write-issues}
 
 module _ (Value : ℕ → Type 0) where
   -- ---- what fits
@@ -86,14 +83,9 @@ module _ (Value : ℕ → Type 0) where
 
   -- ---- what a processor sees and issues fits
 
-  newest-fits : (ws : List WaitingWrite) (x m : ℕ) → All WriteFits ws → Value m → Value (newest ws x m)
-  unfolding newest
-  newest-fits [] x m a h = h
-  newest-fits (w ∷ ws) x m a h = newest-fits ws x _ (a .1) (go (eqb (w .location) x))
-    where
-      go : (b : Bool) → Value (cond b (w .value) m)
-      go true = a .0 .1
-      go false = h
+  seen-fits : (ws : List WaitingWrite) (x m v : ℕ) (from : Origin) → Sees ws x m v from → All WriteFits ws → Value m → Value v
+  seen-fits ws x m v from (fromBuffer {v = u} older newer e n) a h = all-middle WriteFits older newer (writeOf x u) (subst (All WriteFits) e a) .1
+  seen-fits ws x m v from (fromMemory n) a h = h
 
   exchanged-fits : (P : Processor) (from : Source) → Fits P → (r : ℕ) → Value (getD (exchanged P from) r 0)
   unfolding exchanged
@@ -123,9 +115,9 @@ module _ (Value : ℕ → Type 0) where
 
     pub event-fits : (s : Machine) (e : Event) (t : Machine) → Allowed s e t → MachineFits s → EventFits e
     unfolding cell
-    event-fits s e t (Read {p} {x} {v} {rest = rest} c h) f = record {
+    event-fits s e t (Read {p} {x} {v} {rest = rest} {from = from} c h u) f = record {
       location = rest-fits (processor s p) _ rest (f .each-one p) h .0;
-      value = subst Value (sees-newest (processor s p .waiting) x (cell s x) v (read-sees s p x v c)) (newest-fits (processor s p .waiting) x (cell s x) (f .each-one p .waiting) (f .memory x));
+      value = seen-fits (processor s p .waiting) x (cell s x) v from u (f .each-one p .waiting) (f .memory x);
     }
     event-fits s e t (Write {p} {x} {v} {from = from} {rest = rest} c h) f =
         let k = rest-fits (processor s p) _ rest (f .each-one p) h .0 in
@@ -138,9 +130,9 @@ module _ (Value : ℕ → Type 0) where
 
     pub step-fits : (s : Machine) (e : Event) (t : Machine) → Allowed s e t → MachineFits s → MachineFits t
     unfolding withHolder processor
-    step-fits s e t (Read {p} {x} {v} {to = to} {rest = rest} c h) f =
+    step-fits s e t (Read {p} {x} {v} {to = to} {rest = rest} c h u) f =
         with-fits s p _ f
-        (received-fits (processor s p) rest to v (f .each-one p) (rest-fits (processor s p) _ rest (f .each-one p) h .1) (event-fits s _ _ (Read {to = to} c h) f .value))
+        (received-fits (processor s p) rest to v (f .each-one p) (rest-fits (processor s p) _ rest (f .each-one p) h .1) (event-fits s _ _ (Read {to = to} c h u) f .value))
     step-fits s e t (Write {p} {x} {from = from} {rest = rest} c h) f =
         let k = rest-fits (processor s p) _ rest (f .each-one p) h in
         with-fits s p _ f (wrote-fits (processor s p) rest x from (f .each-one p) (k .1) (k .0))

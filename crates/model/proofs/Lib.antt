@@ -8,6 +8,7 @@ pub mod Steps
 pub mod Events
 pub mod Clears
 pub mod Lists
+pub mod Moves
 pub mod Left
 pub mod Orderly
 pub mod Start

@@ -26,6 +26,10 @@ pub all-append : {A : Type 0} (K : A → Type 0) (l m : List A) → All K l → 
 all-append K [] m a b = b
 all-append K (x ∷ l) m a b = (a .0, all-append K l m (a .1) b)
 
+pub all-middle : {A : Type 0} (K : A → Type 0) (l m : List A) (x : A) → All K (l ++ x ∷ m) → K x
+all-middle K [] m x a = a .0
+all-middle K (y ∷ l) m x a = all-middle K l m x (a .1)
+
 -- a processor that has a program step left or a write waiting is one of the list's
 pub there : (Ps : List Processor) (p : ℕ) → ¬ (getD Ps p idle ≡ idle) → p < length Ps
 there [] p n = absurd (n (λ i. idle))

@@ -44,7 +44,7 @@ received-todo P rest aside v = refl
 
 pub orderly-kept : (s : Machine) (e : Event) (t : Machine) → Allowed s e t → Orderly s → Orderly t
 unfolding advanced assigned wrote drained withCell holds withProcessor processor
-orderly-kept s e t (Read {p} {v = v} {to = to} {rest = rest} c h) o = keep s p _ o (rw (received-todo (processor s p) rest to v) (rw h at (o p)))
+orderly-kept s e t (Read {p} {v = v} {to = to} {rest = rest} c h u) o = keep s p _ o (rw (received-todo (processor s p) rest to v) (rw h at (o p)))
 orderly-kept s e t (Write {p} c h) o = keep s p _ o (rw h at (o p))
 orderly-kept s e t (Drain {p} c h) o = keep s p _ o (o p)
 orderly-kept s e t (Fence {p} c h) o = keep s p _ o (rw h at (o p))

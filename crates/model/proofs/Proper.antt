@@ -16,7 +16,7 @@ use Rattle.model.specs.Left.{leftOf}
 use Rattle.model.specs.Promises.{Bytes}
 use Rattle.model.proofs.Bools.{false-true}
 use Rattle.model.proofs.Lists.{there}
-use Rattle.model.proofs.Left.{moves}
+use Rattle.model.proofs.Moves.{moves}
 use Rattle.model.proofs.Runs.{run-keeps}
 use Rattle.model.proofs.Bytes.{Small}
 use Rattle.model.proofs.Sizes.{start-four}
@@ -59,7 +59,7 @@ of-processor k p row a b c = record {
 
 event-proper : (s : Machine) (e : Event) (t : Machine) → Allowed s e t → e .processor < processors → e .location < locations → Proper stepUses e
 unfolding stepUses
-event-proper s e t (Read {p} {x} {v} c h) a b = of-memory 1 p x v refl (omega arith) (omega arith) a b
+event-proper s e t (Read {p} {x} {v} c h u) a b = of-memory 1 p x v refl (omega arith) (omega arith) a b
 event-proper s e t (Write {p} {x} {v} c h) a b = of-memory 2 p x v refl (omega arith) (omega arith) a b
 event-proper s e t (Drain {p} {x} {v} c h) a b = of-memory 3 p x v refl (omega arith) (omega arith) a b
 event-proper s e t (Fence {p} c h) a b = of-processor 4 p refl (omega arith) (omega arith) a

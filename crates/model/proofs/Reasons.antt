@@ -10,7 +10,7 @@ use Rattle.model.specs.Program.{ProgramStep, lock, unlock}
 use Rattle.model.specs.Machine.{Machine, free, held, processor}
 use Rattle.model.specs.Rules.{Event, Blocked, Clear, Allowed, Run}
 use Rattle.model.specs.Tests.{Tested, passed, refused}
-use Rattle.model.specs.Calls.{takeRecord}
+use Rattle.model.specs.Calls.{Reached, reached, takeRecord}
 use Rattle.model.specs.Numbers.{Turns}
 use Rattle.model.specs.Orderly.{Orderly}
 use Rattle.model.proofs.Tests.{passed-refused}
@@ -40,14 +40,14 @@ module _ (table : List ℕ) (entries : List Entry) (readable : Readable table en
 
     -- it is allowed, or it gets a number, and not both
     either : ((t : Machine) × Allowed s e t) ⊎ ((n : ℕ) × Turns s e n)
-    either = go (takeRecord 0 s e) refl
+    either = go (takeRecord 0 (reached s 0) e) refl
       where
-        go : (o : Tested Machine) → takeRecord 0 s e ≡ o → ((t : Machine) × Allowed s e t) ⊎ ((n : ℕ) × Turns s e n)
-        go (passed t) h = inl (t, take-passed 0 s t e orderly h)
-        go (refused n i) h = inr (n, take-refused 0 s e n i h .0)
+        go : (o : Tested Reached) → takeRecord 0 (reached s 0) e ≡ o → ((t : Machine) × Allowed s e t) ⊎ ((n : ℕ) × Turns s e n)
+        go (passed d) h = inl (d .machine, take-passed 0 (reached s 0) d e orderly h .allowed)
+        go (refused n i) h = inr (n, take-refused 0 (reached s 0) e n i h .0)
 
     not-both : (t : Machine) → Allowed s e t → (n : ℕ) → ¬ Turns s e n
-    not-both t a n u = passed-refused (sym (take-allowed 0 s t e (next-proper table entries readable es s run e t a) a) ∙ take-turns 0 s e n u)
+    not-both t a n u = passed-refused (sym (take-allowed 0 s t 0 e (next-proper table entries readable es s run e t a) a) ∙ take-turns 0 (reached s 0) e n u)
 
     -- so it gets no number exactly when a rule allows it
     pub no-number : ((n : ℕ) → ¬ Turns s e n) ↔ ((t : Machine) × Allowed s e t)

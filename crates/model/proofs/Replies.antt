@@ -15,12 +15,12 @@ use Rattle.model.specs.Left.{left, Finished, FinishingRun}
 use Rattle.model.specs.Finish.{isFinished, completion}
 use Rattle.model.specs.Tests.{Tested, passed, refused}
 use Rattle.model.specs.Reply.{Reply, done, refuse, words}
-use Rattle.model.specs.Calls.{written, tried, replied, reported, checkedAt, checked, completedAt, completed}
+use Rattle.model.specs.Calls.{Reached, reached, written, tried, replied, reported, checkedAt, checked, completedAt, completed}
 use Rattle.model.specs.Numbers.{Follows, Stops, Checks, Finishes}
 use Rattle.model.proofs.Left.{finished-test}
 use Rattle.model.proofs.Finish.{completion-runs}
 use Rattle.model.proofs.Completion.{one-completion}
-use Rattle.model.proofs.Numbers.{tried-follows, tried-stops}
+use Rattle.model.proofs.Numbers.{ownOf, tried-ends, follows-tried, tried-stops}
 
 -- ---- the room is large enough, or not
 
@@ -34,22 +34,22 @@ written-not place needed contents room h = rw (lt-leb needed (length room) h)
 
 -- ---- what follows the trace
 
-replied-follows : (table trace room : List ℕ) (s : Machine) (f : Machine → Reply) → Follows table trace (records trace) s → replied room (tried table trace) f ≡ f s
+replied-follows : (table trace room : List ℕ) (s : Machine) (f : Reached → Reply) (h : Follows table trace (records trace) s) → replied room (tried table trace) f ≡ f (reached s (ownOf h))
 unfolding replied
-replied-follows table trace room s f h = rw (tried-follows table trace s .1 h)
+replied-follows table trace room s f h = rw (follows-tried table trace s h)
 
-replied-stops : (table trace room : List ℕ) (n i : ℕ) (f : Machine → Reply) → Stops table trace n i → replied room (tried table trace) f ≡ refuse n i room
+replied-stops : (table trace room : List ℕ) (n i : ℕ) (f : Reached → Reply) → Stops table trace n i → replied room (tried table trace) f ≡ refuse n i room
 unfolding replied
 replied-stops table trace room n i f h = rw (tried-stops table trace n i .1 h)
 
 -- a kind of reply that both cases have, the call has
-pub replied-is : (K : Reply → Type 0) (table trace room : List ℕ) (f : Machine → Reply)
-    → ((n i : ℕ) → Stops table trace n i → K (refuse n i room)) → ((s : Machine) → Follows table trace (records trace) s → K (f s)) → K (replied room (tried table trace) f)
+pub replied-is : (K : Reply → Type 0) (table trace room : List ℕ) (f : Reached → Reply)
+    → ((n i : ℕ) → Stops table trace n i → K (refuse n i room)) → ((s : Machine) (h : Follows table trace (records trace) s) → K (f (reached s (ownOf h)))) → K (replied room (tried table trace) f)
 unfolding replied
 replied-is K table trace room f stops follows = go (tried table trace) refl
   where
-    go : (t : Tested Machine) → tried table trace ≡ t → K (replied room t f)
-    go (passed s) h = follows s (tried-follows table trace s .0 h)
+    go : (t : Tested Reached) → tried table trace ≡ t → K (replied room t f)
+    go (passed c) h = let e = tried-ends table trace c h in subst (λ (n : ℕ). K (f (reached (c .machine) n))) (e .counts) (follows (c .machine) (e .follows))
     go (refused n i) h = stops n i (tried-stops table trace n i .0 h)
 
 pub written-is : (K : Reply → Type 0) (place needed : ℕ) (contents room : List ℕ)
@@ -73,22 +73,22 @@ is-not-finished s n = go (isFinished s) refl
     go true h = absurd (n (finished-test s .0 h))
     go false h = h
 
-check-finished : (trace room : List ℕ) (s : Machine) → Finished s → checkedAt trace room s ≡ written (length (records trace)) resultWords (words s) room
+check-finished : (trace room : List ℕ) (s : Machine) (own : ℕ) → Finished s → checkedAt trace room (reached s own) ≡ written (length (records trace)) resultWords (words s own) room
 unfolding checkedAt reported
-check-finished trace room s f = rw (finished-test s .1 f)
+check-finished trace room s own f = rw (finished-test s .1 f)
 
-check-unfinished : (trace room : List ℕ) (s : Machine) → ¬ Finished s → checkedAt trace room s ≡ refuse 12 (length (records trace)) room
+check-unfinished : (trace room : List ℕ) (s : Machine) (own : ℕ) → ¬ Finished s → checkedAt trace room (reached s own) ≡ refuse 12 (length (records trace)) room
 unfolding checkedAt reported
-check-unfinished trace room s n = rw (is-not-finished s n)
+check-unfinished trace room s own n = rw (is-not-finished s n)
 
-checks-end : (table trace room : List ℕ) (s : Machine) → Follows table trace (records trace) s → Checks table trace room (checkedAt trace room s)
+checks-end : (table trace room : List ℕ) (s : Machine) (f : Follows table trace (records trace) s) → Checks table trace room (checkedAt trace room (reached s (ownOf f)))
 unfolding checkedAt reported
 checks-end table trace room s f = go (isFinished s) refl
   where
-    go : (b : Bool) → isFinished s ≡ b → Checks table trace room (cond b (written (length (records trace)) resultWords (words s) room) (refuse 12 (length (records trace)) room))
+    go : (b : Bool) → isFinished s ≡ b → Checks table trace room (cond b (written (length (records trace)) resultWords (words s (ownOf f)) room) (refuse 12 (length (records trace)) room))
     go true h =
         let d = finished-test s .0 h in
-        written-is (Checks table trace room) (length (records trace)) resultWords (words s) room (λ l. Checks.finished f d l) (λ l. Checks.tooSmall f d l)
+        written-is (Checks table trace room) (length (records trace)) resultWords (words s (ownOf f)) room (λ l. Checks.finished f d l) (λ l. Checks.tooSmall f d l)
     go false h = Checks.unfinished f (not-finished s h)
 
 checks : (table trace room : List ℕ) → Checks table trace room (checked table trace room)
@@ -98,18 +98,18 @@ checks table trace room = replied-is (Checks table trace room) table trace room 
 checks-back : (table trace room : List ℕ) (r : Reply) → Checks table trace room r → checked table trace room ≡ r
 unfolding checked
 checks-back table trace room r (Checks.stopped {n} {i} s) = replied-stops table trace room n i (checkedAt trace room) s
-checks-back table trace room r (Checks.unfinished {s} f n) = replied-follows table trace room s (checkedAt trace room) f ∙ check-unfinished trace room s n
+checks-back table trace room r (Checks.unfinished {s} f n) = replied-follows table trace room s (checkedAt trace room) f ∙ check-unfinished trace room s (ownOf f) n
 checks-back table trace room r (Checks.tooSmall {s} f d l) =
-    replied-follows table trace room s (checkedAt trace room) f ∙ check-finished trace room s d ∙ written-not (length (records trace)) resultWords (words s) room l
+    replied-follows table trace room s (checkedAt trace room) f ∙ check-finished trace room s (ownOf f) d ∙ written-not (length (records trace)) resultWords (words s (ownOf f)) room l
 checks-back table trace room r (Checks.finished {s} f d l) =
-    replied-follows table trace room s (checkedAt trace room) f ∙ check-finished trace room s d ∙ written-fits (length (records trace)) resultWords (words s) room l
+    replied-follows table trace room s (checkedAt trace room) f ∙ check-finished trace room s (ownOf f) d ∙ written-fits (length (records trace)) resultWords (words s (ownOf f)) room l
 
 pub checked-exactly : (table trace room : List ℕ) (r : Reply) → (checked table trace room ≡ r) ↔ Checks table trace room r
 checked-exactly table trace room r = (λ h. subst (Checks table trace room) h (checks table trace room), checks-back table trace room r)
 
 -- ---- finishing
 
-finishes-end : (table trace room : List ℕ) (s : Machine) → Follows table trace (records trace) s → Finishes table trace room (completedAt room s)
+finishes-end : (table trace room : List ℕ) (s : Machine) (f : Follows table trace (records trace) s) → Finishes table trace room (completedAt room (reached s (ownOf f)))
 unfolding completedAt
 finishes-end table trace room s f =
     let c = completion-runs (f .entries) (records trace) s (f .run) in
@@ -121,21 +121,21 @@ finishes table trace room = replied-is (Finishes table trace room) table trace r
 
 -- what finishing writes is the finishing run
 finish-fits : (room : List ℕ) (s u : Machine) (events : List Event) → FinishingRun s events u → recordSize * left s ≤ length room
-    → completedAt room s ≡ done (left s) (fileOf events ++ drop (recordSize * left s) room)
+    → (own : ℕ) → completedAt room (reached s own) ≡ done (left s) (fileOf events ++ drop (recordSize * left s) room)
 unfolding completedAt
-finish-fits room s u events r l =
+finish-fits room s u events r l own =
     written-fits (left s) (recordSize * left s) (fileOf (completion s)) room l
     ∙ ap (λ (es : List Event). done (left s) (fileOf es ++ drop (recordSize * left s) room)) (one-completion events s u r)
 
-finish-small : (room : List ℕ) (s : Machine) → length room < recordSize * left s → completedAt room s ≡ refuse 13 (recordSize * left s) room
+finish-small : (room : List ℕ) (s : Machine) → length room < recordSize * left s → (own : ℕ) → completedAt room (reached s own) ≡ refuse 13 (recordSize * left s) room
 unfolding completedAt
-finish-small room s l = written-not (left s) (recordSize * left s) (fileOf (completion s)) room l
+finish-small room s l own = written-not (left s) (recordSize * left s) (fileOf (completion s)) room l
 
 finishes-back : (table trace room : List ℕ) (r : Reply) → Finishes table trace room r → completed table trace room ≡ r
 unfolding completed
 finishes-back table trace room r (Finishes.stopped {n} {i} s) = replied-stops table trace room n i (completedAt room) s
-finishes-back table trace room r (Finishes.tooSmall {s} f l) = replied-follows table trace room s (completedAt room) f ∙ finish-small room s l
-finishes-back table trace room r (Finishes.completed {s} events u f c l) = replied-follows table trace room s (completedAt room) f ∙ finish-fits room s u events c l
+finishes-back table trace room r (Finishes.tooSmall {s} f l) = replied-follows table trace room s (completedAt room) f ∙ finish-small room s l (ownOf f)
+finishes-back table trace room r (Finishes.completed {s} events u f c l) = replied-follows table trace room s (completedAt room) f ∙ finish-fits room s u events c l (ownOf f)
 
 pub completed-exactly : (table trace room : List ℕ) (r : Reply) → (completed table trace room ≡ r) ↔ Finishes table trace room r
 completed-exactly table trace room r = (λ h. subst (Finishes table trace room) h (finishes table trace room), finishes-back table trace room r)

@@ -14,11 +14,12 @@ use Rattle.model.specs.Finish.{isFinished, completion}
 use Rattle.model.specs.Kinds.{Entry}
 use Rattle.model.specs.Table.{start}
 use Rattle.model.specs.Reply.{refuse, words}
-use Rattle.model.specs.Calls.{written, reported, checkedAt, checked, completedAt, completed}
+use Rattle.model.specs.Calls.{reached, written, reported, checkedAt, checked, completedAt, completed}
 use Rattle.model.specs.Numbers.{Follows}
 use Rattle.model.specs.Promises.{Lent}
-use Rattle.model.proofs.Words.{reached-words, file-length}
+use Rattle.model.proofs.Words.{words-length, file-length}
 use Rattle.model.proofs.Finish.{completion-completes}
+use Rattle.model.proofs.Numbers.{ownOf}
 use Rattle.model.proofs.Replies.{replied-is, written-is}
 
 refused-lent : (n i : ℕ) (room : List ℕ) → Lent room (refuse n i room)
@@ -34,12 +35,12 @@ written-lent place needed contents room e =
 
 -- ---- checking
 
-check-end : (table trace room : List ℕ) (s : Machine) → Follows table trace (records trace) s → Lent room (checkedAt trace room s)
+check-end : (table trace room : List ℕ) (s : Machine) (f : Follows table trace (records trace) s) → Lent room (checkedAt trace room (reached s (ownOf f)))
 unfolding checkedAt reported
 check-end table trace room s f = go (isFinished s)
   where
-    go : (b : Bool) → Lent room (cond b (written (length (records trace)) resultWords (words s) room) (refuse 12 (length (records trace)) room))
-    go true = written-lent (length (records trace)) resultWords (words s) room (reached-words (f .entries) (records trace) s (f .run))
+    go : (b : Bool) → Lent room (cond b (written (length (records trace)) resultWords (words s (ownOf f)) room) (refuse 12 (length (records trace)) room))
+    go true = written-lent (length (records trace)) resultWords (words s (ownOf f)) room (words-length (f .entries) (records trace) s (ownOf f) (f .run))
     go false = refused-lent 12 (length (records trace)) room
 
 pub check-lends : (table trace room : List ℕ) → Lent room (checked table trace room)

@@ -1,18 +1,18 @@
--- Runs of allowed steps: what a step keeps, a run keeps; a run has one end; k and the length of a run.
+-- Runs of allowed steps: what a step keeps, a run keeps; a run has one end, and one number of reads that own buffers served; k and the length of a run.
 use mathlib.Core.Path.{_≡_, refl, sym, _∙_, subst}
 use mathlib.Core.List.{List, [], _∷_, _++_}
 use Prim.Native.Nat.{ℕ, _+_, _≤_}
 use native.Mathlib.Omega.{arith}
 use lib.ListN.{length}
 use Rattle.model.specs.Machine.{Machine, Holder, free, held, processor}
-use Rattle.model.specs.Rules.{Event, Allowed, Run}
+use Rattle.model.specs.Rules.{Event, Allowed, Run, ownRead, ownReads}
 use Rattle.model.specs.Step.{holds}
 use Rattle.model.specs.Left.{left, Finished}
 use Rattle.model.specs.Orderly.{Paired, Orderly}
 use Rattle.model.specs.Kinds.{Entry}
 use Rattle.model.specs.Table.{start}
 use Rattle.model.proofs.Bools.{holds-self}
-use Rattle.model.proofs.Steps.{one-result}
+use Rattle.model.proofs.Steps.{one-result, served-own}
 use Rattle.model.proofs.Left.{one-less, zero-finished}
 use Rattle.model.proofs.Orderly.{orderly-kept}
 use Rattle.model.proofs.Start.{start-orderly}
@@ -31,6 +31,15 @@ pub one-end : (es : List Event) (s t u : Machine) → Run s es t → Run s es u 
 one-end [] s t u p q = sym p ∙ q
 one-end (e ∷ es) s t u p q =
     one-end es (p .0) t u (p .2) (subst (λ (m : Machine). Run m es u) (one-result s e (q .0) (p .0) (q .1) (p .1)) (q .2))
+
+-- and any run with these events has as many reads that own buffers served
+pub one-count : (es : List Event) (s t u : Machine) (p : Run s es t) (q : Run s es u) → ownReads s es t p ≡ ownReads s es u q
+unfolding ownReads
+one-count [] s t u p q = refl
+one-count (e ∷ es) s t u p q =
+    let a : ownRead (p .1) ≡ ownRead (q .1) = sym (served-own s e (p .0) (p .1)) ∙ served-own s e (q .0) (q .1) in
+    let b = subst (λ (m : Machine). (r : Run m es u) → ownReads (p .0) es t (p .2) ≡ ownReads m es u r) (one-result s e (p .0) (q .0) (p .1) (q .1)) (one-count es (p .0) t u (p .2)) (q .2) in
+    λ j. a j + b j
 
 -- one run after another
 pub run-append : (es fs : List Event) (s t u : Machine) → Run s es t → Run t fs u → Run s (es ++ fs) u

@@ -16,7 +16,7 @@ use Rattle.model.specs.Table.{Readable, extended, enter, enterAll, empty
 use Rattle.model.proofs.Bools.{one, self}
 use Rattle.model.proofs.Lists.{each}
 use Rattle.model.proofs.Start.{empty-at}
-use Rattle.model.proofs.Left.{writesOf, moves}
+use Rattle.model.proofs.Moves.{writesOf, moves}
 use Rattle.model.proofs.Runs.{run-keeps}
 use Rattle.model.proofs.Readable.{count, isOf, readable-sound}
 

@@ -1,18 +1,22 @@
 -- `step` takes the steps that the rules allow, and turns the others down for the first condition that is met; a step has one result.
 use mathlib.Core.Path.{_≡_, refl, sym, ap, _∙_, subst}
 use mathlib.Core.Logic.{_↔_}
+use mathlib.Core.Bool.{Bool, true, false, cond}
 use mathlib.Core.Option.{Option, none, some}
 use mathlib.Core.List.{List, _∷_}
-use Prim.Native.Nat.{ℕ}
+use Prim.Native.Nat.{ℕ, _≤_}
 use native.Mathlib.Omega.{arith}
+use lib.Dec.{eqb, lit≤}
+use Rattle.model.specs.declared.origin.Origin.{Origin}
+use Rattle.model.specs.declared.origin.Origin.the-variants.{Memory, Waiting}
 use Rattle.model.specs.declared.answer.Condition.{Condition}
 use Rattle.model.specs.Fields.{Known}
 use Rattle.model.specs.Kinds.{stepUses}
 use Rattle.model.specs.Program.{ProgramStep, Source, write}
 use Rattle.model.specs.Machine.{Machine, processor, cell, issued, received, withProcessor}
-use Rattle.model.specs.Rules.{Event, R, W, Sees, Right, ofRead, ofWrite, ofDrain, conditionNumber, conditions, FirstMet, Clear, Allowed, Read, Write, Drain, Fence, Lock, Unlock, Local}
-use Rattle.model.specs.Step.{Move, drainMove, nextMove, moveFor, met, firstMet, took, turned, stepped, afterMove, step, seen}
-use Rattle.model.proofs.Sees.{sees-newest}
+use Rattle.model.specs.Rules.{Event, R, W, Right, ofRead, ofWrite, ofDrain, conditionNumber, conditions, FirstMet, Clear, Allowed, Read, Write, Drain, Fence, Lock, Unlock, Local, served, ownRead}
+use Rattle.model.specs.Step.{Move, drainMove, nextMove, moveFor, met, firstMet, took, turned, stepped, afterMove, step, originOf, seen, servedOwn}
+use Rattle.model.proofs.Sees.{sees-origin, sees-seen}
 use Rattle.model.proofs.Answers.{one-condition}
 use Rattle.model.proofs.Conditions.{none-clear, some-first, is-right}
 
@@ -28,7 +32,7 @@ turned-inj {n} {m} h = cc
 -- ---- what an allowed step is known to have
 
 pub allowed-clear : (s : Machine) (e : Event) (t : Machine) → Allowed s e t → Clear s e
-allowed-clear s e t (Read c h) = c
+allowed-clear s e t (Read c h u) = c
 allowed-clear s e t (Write c h) = c
 allowed-clear s e t (Drain c h) = c
 allowed-clear s e t (Fence c h) = c
@@ -38,7 +42,7 @@ allowed-clear s e t (Local c h) = c
 
 allowed-known : (s : Machine) (e : Event) (t : Machine) → Allowed s e t → Known stepUses e
 unfolding stepUses
-allowed-known s e t (Read c h) = omega arith
+allowed-known s e t (Read c h u) = omega arith
 allowed-known s e t (Write c h) = omega arith
 allowed-known s e t (Drain c h) = omega arith
 allowed-known s e t (Fence c h) = omega arith
@@ -46,20 +50,11 @@ allowed-known s e t (Lock c h f) = omega arith
 allowed-known s e t (Unlock c h f) = omega arith
 allowed-known s e t (Local c h) = omega arith
 
--- the value of a read that is right, and of a write
-right-seen : (s : Machine) (e : Event) → Right s e → e .kind ≡ 1 → Sees (processor s (e .processor) .waiting) (e .location) (cell s (e .location)) (e .value)
-right-seen s e (ofRead h u) k = u
-right-seen s e (ofWrite h i) k = absurd (omega arith)
-right-seen s e (ofDrain h) k = absurd (omega arith)
-
+-- the value of a write that is right
 right-issued : (s : Machine) (e : Event) → Right s e → e .kind ≡ 2 → {x : ℕ} {from : Source} {rest : List ProgramStep} → processor s (e .processor) .todo ≡ write x from ∷ rest → issued (processor s (e .processor)) from ≡ e .value
 right-issued s e (ofRead h u) k g = absurd (omega arith)
 right-issued s e (ofWrite {p} {from = from} h i) k {x} {from = f} {rest} g = let same : f ≡ from = let both = sym g ∙ h in cc in ap (issued (processor s p)) same ∙ i
 right-issued s e (ofDrain h) k g = absurd (omega arith)
-
-pub read-sees : (s : Machine) (p x v : ℕ) → Clear s (R p x v) → Sees (processor s p .waiting) x (cell s x) v
-unfolding conditions
-read-sees s p x v c = right-seen s (R p x v) (is-right s (R p x v) (omega arith) (c .1 .1 .0)) refl
 
 pub write-issues : (s : Machine) (p x v : ℕ) {from : Source} {rest : List ProgramStep} → Clear s (W p x v) → processor s p .todo ≡ write x from ∷ rest → issued (processor s p) from ≡ v
 unfolding conditions
@@ -75,8 +70,8 @@ pub record Offered (s : Machine) (e : Event) (t : Machine) : Type 0 where
 
 pub offered : (s : Machine) (e : Event) (t : Machine) → Allowed s e t → Offered s e t
 unfolding moveFor
-offered s e t (Read {p} {x} {v} {to = to} {rest = rest} c h) =
-    let v-seen : seen s p x ≡ v = sees-newest (processor s p .waiting) x (cell s x) v (read-sees s p x v c) in
+offered s e t (Read {p} {x} {v} {to = to} {rest = rest} {from = from} c h u) =
+    let v-seen : seen s p x ≡ v = sees-seen s p x v from u in
     record {
       move = _;
       asked = ap (nextMove s p) h;
@@ -95,6 +90,26 @@ unfolding step afterMove
 allowed-step s e t a =
     let o = offered s e t a in
     (λ j. stepped (none-clear s e (allowed-known s e t a) .1 (allowed-clear s e t a) j) (afterMove s (o .asked j))) ∙ ap took (o .after)
+
+-- whether its own buffer serves it
+pub served-own : (s : Machine) (e : Event) (t : Machine) (a : Allowed s e t) → servedOwn s e ≡ ownRead a
+unfolding servedOwn originOf ownRead
+served-own s e t (Read {p} {x} {v} {from = from} c h u) = ap served (sees-origin (processor s p .waiting) x (cell s x) v from u)
+served-own s e t (Write c h) = refl
+served-own s e t (Drain c h) = refl
+served-own s e t (Fence c h) = refl
+served-own s e t (Lock c h f) = refl
+served-own s e t (Unlock c h f) = refl
+served-own s e t (Local c h) = refl
+
+pub served-few : (s : Machine) (e : Event) → servedOwn s e ≤ 1
+unfolding servedOwn
+served-few s e = go (eqb (e .kind) 1) (originOf s (e .processor) (e .location))
+  where
+    go : (b : Bool) (o : Origin) → cond b (served o) 0 ≤ 1
+    go true Memory = lit≤ tt
+    go true (Waiting i) = lit≤ tt
+    go false o = lit≤ tt
 
 pub one-result : (s : Machine) (e : Event) (t u : Machine) → Allowed s e t → Allowed s e u → t ≡ u
 one-result s e t u a b = took-inj (sym (allowed-step s e t a) ∙ allowed-step s e u b)

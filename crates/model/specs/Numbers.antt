@@ -11,7 +11,7 @@ use Rattle.model.specs.Fields.{Known, Proper}
 use Rattle.model.specs.Kinds.{Entry, stepUses}
 use Rattle.model.specs.Table.{Refuses, Reads, Whole, Readable, start}
 use Rattle.model.specs.Machine.{Machine}
-use Rattle.model.specs.Rules.{Event, FirstMet, conditions, conditionNumber, Run}
+use Rattle.model.specs.Rules.{Event, FirstMet, conditions, conditionNumber, Run, ownReads}
 use Rattle.model.specs.Left.{left, Finished, FinishingRun}
 use Rattle.model.specs.Reply.{Reply, done, refuse, words}
 
@@ -60,8 +60,8 @@ pub data Checks (table trace room : List ℕ) : Reply → Type 0 where
       → Follows table trace (records trace) s → Finished s → length room < resultWords
       → Checks table trace room (refuse 13 resultWords room)
   finished : {s : Machine}
-      → Follows table trace (records trace) s → Finished s → resultWords ≤ length room
-      → Checks table trace room (done (length (records trace)) (words s ++ drop resultWords room))
+      → (f : Follows table trace (records trace) s) → Finished s → resultWords ≤ length room
+      → Checks table trace room (done (length (records trace)) (words s (ownReads (start (f .entries)) (records trace) s (f .run)) ++ drop resultWords room))
 
 -- finishing
 pub data Finishes (table trace room : List ℕ) : Reply → Type 0 where

@@ -12,7 +12,7 @@ use Rattle.model.specs.Fields.{Proper}
 use Rattle.model.specs.Kinds.{Entry, stepUses}
 use Rattle.model.specs.Table.{Whole, Readable, start}
 use Rattle.model.specs.Machine.{Machine}
-use Rattle.model.specs.Rules.{Event, FirstMet, conditions, conditionNumber, Run}
+use Rattle.model.specs.Rules.{Event, FirstMet, conditions, conditionNumber, Run, ownReads}
 use Rattle.model.specs.Left.{left, Finished}
 use Rattle.model.specs.Finish.{completion}
 use Rattle.model.specs.Reply.{Reply, done, refuse, words}
@@ -40,9 +40,10 @@ pub record TurnedAt (entries : List Entry) (events : List Event) (c : Condition)
   pub first : FirstMet s event c (conditions (event .kind))
 
 pub record Demand2 (trace room : List ℕ) (entries : List Entry) (r : Reply) : Type 0 where
-  -- with room: 0 exactly when the trace is a run to a finished machine, and then the words of that machine
+  -- with room: 0 exactly when the trace is a run to a finished machine, and then the outcome of that machine, and how many reads own buffers served in that run
   pub accepts : resultWords ≤ length room → (r .number ≡ 0) ↔ ((s : Machine) × Run (start entries) (records trace) s × Finished s)
-  pub reports : resultWords ≤ length room → (s : Machine) → Run (start entries) (records trace) s → Finished s → r ≡ done (length (records trace)) (words s ++ drop resultWords room)
+  pub reports : resultWords ≤ length room → (s : Machine) (run : Run (start entries) (records trace) s) → Finished s
+      → r ≡ done (length (records trace)) (words s (ownReads (start entries) (records trace) s run) ++ drop resultWords room)
   -- 12 exactly when it is a run to a machine that is not finished, and a condition's number at i exactly when it is turned down for it at i
   pub unfinished : (i : ℕ) → (r ≡ refuse 12 i room) ↔ ((s : Machine) × Run (start entries) (records trace) s × ¬ Finished s × (length (records trace) ≡ i))
   pub turns : (c : Condition) (i : ℕ) → (r ≡ refuse (conditionNumber c) i room) ↔ TurnedAt entries (records trace) c i
@@ -59,13 +60,17 @@ pub record Completes (s : Machine) (k : ℕ) (events : List Event) : Type 0 wher
   pub run : Run s events end
   pub finished : Finished end
 
+-- the words of the machine and the run that it is completed by
+abbrev pub wordsOf : {s : Machine} {k : ℕ} {events : List Event} → Completes s k events → List ℕ
+wordsOf {s} {events = events} c = words (c .end) (ownReads s events (c .end) (c .run))
+
 -- the bytes `steps` are k records: behind those of the trace they complete the run, and check as finished with the words of its end
 pub record Added (table trace : List ℕ) (entries : List Entry) (k : ℕ) (steps : List ℕ) : Type 0 where
   pub whole : Whole steps
   pub count : length (records steps) ≡ k
   pub completes : Bytes table → Completes (start entries) (left (start entries)) (records trace ++ records steps)
   pub checks : (b : Bytes table) (lent : List ℕ) → resultWords ≤ length lent
-      → checked table (trace ++ steps) lent ≡ done (left (start entries)) (words (completes b .end) ++ drop resultWords lent)
+      → checked table (trace ++ steps) lent ≡ done (left (start entries)) (wordsOf (completes b) ++ drop resultWords lent)
 
 -- the steps written, by the place that the caller is given
 abbrev pub stepsIn : Reply → List ℕ

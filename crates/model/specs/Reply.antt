@@ -19,14 +19,19 @@ done place room = record { number = 0; place = place; room = room }
 abbrev pub refuse : ℕ → ℕ → List ℕ → Reply
 refuse number place room = record { number = number; place = place; room = room }
 
--- the words of a result: registers, processor by processor, then memory
+-- an outcome: registers, processor by processor, then memory
 unfoldable pub registersIn : List Processor → List ℕ
 registersIn [] = []
 registersIn (P ∷ Ps) = P .registers ++ registersIn Ps
 
-unfoldable pub words : Machine → List ℕ
+unfoldable pub outcome : Machine → List ℕ
 unfolding registersIn
-words s = registersIn (s .processors) ++ s .memory
+outcome s = registersIn (s .processors) ++ s .memory
+
+-- the words of a result: the outcome, and how many reads own buffers served
+unfoldable pub words : Machine → ℕ → List ℕ
+unfolding outcome
+words s own = outcome s ++ (own ∷ [])
 
 -- ---- the code's answers in these numbers
 

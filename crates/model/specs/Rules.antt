@@ -2,9 +2,11 @@
 -- Step.antt says the same as functions, and proofs/Conditions.antt, Steps.antt and Clears.antt show that they agree.
 use mathlib.Core.Path.{_≡_}
 use mathlib.Core.List.{List, [], _∷_, _++_}
-use Prim.Native.Nat.{ℕ}
-use lib.ListN.{getD}
+use Prim.Native.Nat.{ℕ, _+_}
+use lib.ListN.{length, getD}
 use Rattle.model.specs.declared.record.Record.{Record}
+use Rattle.model.specs.declared.origin.Origin.{Origin}
+use Rattle.model.specs.declared.origin.Origin.the-variants.{Memory, Waiting}
 use Rattle.model.specs.declared.answer.Condition.{Condition}
 use Rattle.model.specs.declared.answer.Condition.the-variants.{AnotherKind, NothingWaits, LockHeld, BufferNotEmpty, NotRight}
 use Rattle.model.specs.Lists.{All}
@@ -59,15 +61,15 @@ Blocked s p = (q : ℕ) × (s .holder ≡ held q) × ¬ (q ≡ p)
 abbrev pub NoneTo : ℕ → List WaitingWrite → Type 0
 NoneTo x ws = All (λ w. ¬ (w .location ≡ x)) ws
 
--- a read of x gives v, where m is in memory: the newest waiting write to x or, with none, memory
-pub data Sees (waiting : List WaitingWrite) (x m : ℕ) : ℕ → Type 0 where
-  fromBuffer : {v : ℕ} (older newer : List WaitingWrite) → waiting ≡ older ++ writeOf x v ∷ newer → NoneTo x newer → Sees waiting x m v
-  fromMemory : NoneTo x waiting → Sees waiting x m m
+-- a read of x gives v, where m is in memory: the newest waiting write to x or, with none, memory; and which it is
+pub data Sees (waiting : List WaitingWrite) (x m : ℕ) : ℕ → Origin → Type 0 where
+  fromBuffer : {v : ℕ} (older newer : List WaitingWrite) → waiting ≡ older ++ writeOf x v ∷ newer → NoneTo x newer → Sees waiting x m v (Waiting (length older))
+  fromMemory : NoneTo x waiting → Sees waiting x m m Memory
 
 -- location and value are the right ones: those of the next read or write, or of the oldest own waiting write
 pub data Right (s : Machine) : Event → Type 0 where
-  ofRead : {p x v : ℕ} {to : Target} {rest : List ProgramStep}
-      → processor s p .todo ≡ read x to ∷ rest → Sees (processor s p .waiting) x (cell s x) v
+  ofRead : {p x v : ℕ} {to : Target} {rest : List ProgramStep} {from : Origin}
+      → processor s p .todo ≡ read x to ∷ rest → Sees (processor s p .waiting) x (cell s x) v from
       → Right s (R p x v)
   ofWrite : {p x v : ℕ} {from : Source} {rest : List ProgramStep}
       → processor s p .todo ≡ write x from ∷ rest → issued (processor s p) from ≡ v
@@ -126,8 +128,8 @@ Clear s e = All (λ c. ¬ Met c s e) (conditions (e .kind))
 -- What lock and unlock ask of the holder besides has no number: in a machine that a run reaches it never decides (proofs/Reasons.antt).
 
 pub data Allowed (s : Machine) : Event → Machine → Type 0 where
-  Read : {p x v : ℕ} {to : Target} {rest : List ProgramStep}
-      → Clear s (R p x v) → processor s p .todo ≡ read x to ∷ rest
+  Read : {p x v : ℕ} {to : Target} {rest : List ProgramStep} {from : Origin}
+      → Clear s (R p x v) → processor s p .todo ≡ read x to ∷ rest → Sees (processor s p .waiting) x (cell s x) v from
       → Allowed s (R p x v) (withProcessor s p (received (processor s p) rest to v))
   Write : {p x v : ℕ} {from : Source} {rest : List ProgramStep}
       → Clear s (W p x v) → processor s p .todo ≡ write x from ∷ rest
@@ -153,3 +155,25 @@ pub data Allowed (s : Machine) : Event → Machine → Type 0 where
 abbrev pub Run : Machine → List Event → Machine → Type 0
 Run s [] u = s ≡ u
 Run s (e ∷ es) u = (t : Machine) × Allowed s e t × Run t es u
+
+-- ---- its reads that own buffers served
+
+abbrev pub served : Origin → ℕ
+served Memory = 0
+served (Waiting position) = 1
+
+-- of one step
+unfoldable pub ownRead : {s : Machine} {e : Event} {t : Machine} → Allowed s e t → ℕ
+ownRead (Read {from = from} c h sees) = served from
+ownRead (Write c h) = 0
+ownRead (Drain c h) = 0
+ownRead (Fence c h) = 0
+ownRead (Lock c h f) = 0
+ownRead (Unlock c h f) = 0
+ownRead (Local c h) = 0
+
+-- of all
+unfoldable pub ownReads : (s : Machine) (events : List Event) (u : Machine) → Run s events u → ℕ
+unfolding ownRead
+ownReads s [] u run = 0
+ownReads s (e ∷ es) u run = ownRead (run .1) + ownReads (run .0) es u (run .2)

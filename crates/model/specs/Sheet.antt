@@ -96,7 +96,7 @@ pub data Call : Type 0 where
 
 -- a room that is larger than needed, so that what a call keeps of it is seen too
 abbrev wordRoom : List ℕ
-wordRoom = replicate 26 7
+wordRoom = replicate 27 7
 
 abbrev byteRoom : List ℕ
 byteRoom = replicate 50 7
@@ -116,9 +116,9 @@ line c r = record { call = c; gives = r }
 abbrev zeros : ℕ → List ℕ
 zeros n = replicate n 0
 
--- finished after n steps; EAX and EBX of p0 and p1, x and y; all other cells are 0, and the room's last two words are kept
-abbrev finished : ℕ → List ℕ → List ℕ → List ℕ → Reply
-finished n p0 p1 m = done n (p0 ++ zeros 2 ++ p1 ++ zeros 2 ++ zeros 8 ++ m ++ zeros 6 ++ replicate 2 7)
+-- finished after n steps; EAX and EBX of p0 and p1, x and y; reads that own buffers served; all other cells are 0, and the room's last two words are kept
+abbrev finished : ℕ → List ℕ → List ℕ → List ℕ → ℕ → Reply
+finished n p0 p1 m own = done n (p0 ++ zeros 2 ++ p1 ++ zeros 2 ++ zeros 8 ++ m ++ zeros 6 ++ (own ∷ []) ++ replicate 2 7)
 
 abbrev pair : ℕ → ℕ → List ℕ
 pair a b = a ∷ b ∷ []
@@ -132,7 +132,7 @@ completes k steps = done k (steps ++ replicate 2 7)
 abbrev pub sheet : List Line
 sheet =
     -- 1
-    line (checks SB (W 0 x 1 ++ W 1 y 1 ++ R 0 y 0 ++ R 1 x 0 ++ D 0 x 1 ++ D 1 y 1)) (finished 6 (pair 0 0) (pair 0 0) (pair 1 1))
+    line (checks SB (W 0 x 1 ++ W 1 y 1 ++ R 0 y 0 ++ R 1 x 0 ++ D 0 x 1 ++ D 1 y 1)) (finished 6 (pair 0 0) (pair 0 0) (pair 1 1) 0)
     -- 2
     ∷ line (checks SB (W 0 x 1 ++ W 1 y 1 ++ R 0 y 1 ++ R 1 x 0 ++ D 0 x 1 ++ D 1 y 1)) (refusedAt 15 2)
     -- 3
@@ -142,19 +142,19 @@ sheet =
     -- 5
     ∷ line (checks SBfenced (W 0 x 1 ++ W 1 y 1 ++ F 0)) (refusedAt 17 2)
     -- 6
-    ∷ line (checks n6 (W 1 y 2 ++ W 0 x 1 ++ R 0 x 1 ++ R 0 y 0 ++ W 1 x 2 ++ D 1 y 2 ++ D 1 x 2 ++ D 0 x 1)) (finished 8 (pair 1 0) (pair 0 0) (pair 1 2))
+    ∷ line (checks n6 (W 1 y 2 ++ W 0 x 1 ++ R 0 x 1 ++ R 0 y 0 ++ W 1 x 2 ++ D 1 y 2 ++ D 1 x 2 ++ D 0 x 1)) (finished 8 (pair 1 0) (pair 0 0) (pair 1 2) 1)
     -- 7
     ∷ line (checks n6 (W 1 y 2 ++ W 1 x 2 ++ D 1 x 2)) (refusedAt 15 2)
     -- 8
-    ∷ line (checks swap (L 0 ++ R 0 x 0 ++ W 0 x 5 ++ D 0 x 5 ++ U 0)) (finished 5 (pair 0 0) (pair 0 0) (pair 5 0))
+    ∷ line (checks swap (L 0 ++ R 0 x 0 ++ W 0 x 5 ++ D 0 x 5 ++ U 0)) (finished 5 (pair 0 0) (pair 0 0) (pair 5 0) 0)
     -- 9
     ∷ line (checks swapBeside (L 0 ++ W 1 x 1 ++ R 1 x 1)) (refusedAt 16 2)
     -- 10
     ∷ line (checks (two 11) (L 0 ++ L 1)) (refusedAt 16 1)
     -- 11
-    ∷ line (checks (two 10) (R 0 x 0 ++ R 1 x 0 ++ W 0 x 1 ++ W 1 x 1 ++ D 0 x 1 ++ D 1 x 1)) (finished 6 (pair 0 0) (pair 0 0) (pair 1 0))
+    ∷ line (checks (two 10) (R 0 x 0 ++ R 1 x 0 ++ W 0 x 1 ++ W 1 x 1 ++ D 0 x 1 ++ D 1 x 1)) (finished 6 (pair 0 0) (pair 0 0) (pair 1 0) 0)
     -- 12
-    ∷ line (checks wraps (row 1 0 0 x most ++ W 0 x 0 ++ D 0 x 0)) (finished 3 (pair 4294967295 0) (pair 0 0) (pair 0 0))
+    ∷ line (checks wraps (row 1 0 0 x most ++ W 0 x 0 ++ D 0 x 0)) (finished 3 (pair 4294967295 0) (pair 0 0) (pair 0 0) 0)
     ∷ []
 
 -- each line's call gets its reply

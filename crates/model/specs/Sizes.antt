@@ -13,8 +13,13 @@ locations = 8
 abbrev pub instructionsEach : ℕ
 instructionsEach = 16
 
+-- the registers and memory at the end of a run
+abbrev pub outcomeCells : ℕ
+outcomeCells = processors * registersEach + locations
+
+-- these, and how many reads own buffers served (document 02, order 3)
 abbrev pub resultWords : ℕ
-resultWords = processors * registersEach + locations
+resultWords = outcomeCells + 1
 
 -- the bytes of a record, and of a value
 abbrev pub recordSize : ℕ

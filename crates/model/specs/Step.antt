@@ -2,13 +2,16 @@
 use mathlib.Core.Bool.{Bool, true, false, cond, not, _&&_}
 use mathlib.Core.Option.{Option, none, some}
 use mathlib.Core.List.{List, [], _∷_}
-use Prim.Native.Nat.{ℕ}
+use Prim.Native.Nat.{ℕ, suc}
+use lib.ListN.{getD}
 use lib.Dec.{eqb}
+use Rattle.model.specs.declared.origin.Origin.{Origin}
+use Rattle.model.specs.declared.origin.Origin.the-variants.{Memory, Waiting}
 use Rattle.model.specs.declared.answer.Condition.{Condition}
 use Rattle.model.specs.declared.answer.Condition.the-variants.{AnotherKind, NothingWaits, LockHeld, BufferNotEmpty, NotRight}
 use Rattle.model.specs.Program.{ProgramStep, read, write, fence, lock, unlock, local}
-use Rattle.model.specs.Machine.{Machine, WaitingWrite, Holder, free, held, processor, cell, issued, advanced, assigned, received, wrote, drained, withProcessor, withCell, withHolder}
-use Rattle.model.specs.Rules.{Event, R, W, D, F, L, U, N, conditionNumber, conditions}
+use Rattle.model.specs.Machine.{Machine, WaitingWrite, writeOf, Holder, free, held, processor, cell, issued, advanced, assigned, received, wrote, drained, withProcessor, withCell, withHolder}
+use Rattle.model.specs.Rules.{Event, R, W, D, F, L, U, N, conditionNumber, conditions, served}
 
 -- ---- tests
 
@@ -31,15 +34,40 @@ same e f =
 
 -- ---- the lookup
 
--- the newest of these writes to x or, with none, m
-unfoldable pub newest : List WaitingWrite → ℕ → ℕ → ℕ
-newest [] x m = m
-newest (w ∷ newer) x m = newest newer x (cond (eqb (w .location) x) (w .value) m)
+-- behind one older write, which is to x or not, positions are one more; with none to x, it is what is read
+unfoldable pub behind : Bool → Origin → Origin
+behind mine Memory = cond mine (Waiting 0) Memory
+behind mine (Waiting i) = Waiting (suc i)
 
--- what processor p sees at x
+-- where a read of x gets its value, if these writes wait: the newest of them to x or, with none, memory
+unfoldable pub originIn : List WaitingWrite → ℕ → Origin
+unfolding behind
+originIn [] x = Memory
+originIn (w ∷ newer) x = behind (eqb (w .location) x) (originIn newer x)
+
+-- the value there, where m is in memory
+unfoldable pub valueFrom : Origin → List WaitingWrite → ℕ → ℕ
+valueFrom Memory waiting m = m
+valueFrom (Waiting i) waiting m = getD waiting i (writeOf 0 0) .value
+
+-- so this is read
+unfoldable pub seenIn : List WaitingWrite → ℕ → ℕ → ℕ
+unfolding originIn valueFrom
+seenIn waiting x m = valueFrom (originIn waiting x) waiting m
+
+-- where processor p's read of x gets its value, and what it sees
+unfoldable pub originOf : Machine → ℕ → ℕ → Origin
+unfolding originIn processor
+originOf s p x = originIn (processor s p .waiting) x
+
 unfoldable pub seen : Machine → ℕ → ℕ → ℕ
-unfolding newest processor cell
-seen s p x = newest (processor s p .waiting) x (cell s x)
+unfolding seenIn processor cell
+seen s p x = seenIn (processor s p .waiting) x (cell s x)
+
+-- whether the event's own buffer serves it, as a number
+unfoldable pub servedOwn : Machine → Event → ℕ
+unfolding originOf
+servedOwn s e = cond (eqb (e .kind) 1) (served (originOf s (e .processor) (e .location))) 0
 
 -- ---- the moves of a processor
 

@@ -1,3 +1,5 @@
+use crate::table::Cells;
+
 // Why a step is turned down, in the words of document 02, order 1. specs/Rules.antt says when each is met, for which steps, and gives its number.
 pub enum Condition {
     // The program's next step is another kind, or the program has ended.
@@ -38,6 +40,11 @@ pub enum Refusal {
 pub enum Answer {
     Done(usize),
     Refused(Refusal, usize),
+}
+
+impl Answer {
+    // In the result of a check: the cells of the outcome, and how many reads own buffers served.
+    pub const WORDS: usize = Cells::ALL + 1;
 }
 
 // What is tested may go on, or is refused: why, and the place.

@@ -2,5 +2,6 @@
 pub mod answer;
 pub mod kind;
 pub mod number;
+pub mod origin;
 pub mod record;
 pub mod table;

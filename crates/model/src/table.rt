@@ -1,8 +1,9 @@
 // What a table gives: each processor's program, and the cells at the start.
 ghost use mathlib.Core.Path.{_≡_};
 ghost use mathlib.Core.List.{[], _∷_};
-ghost use Rattle.model.specs.Sizes.{processors, registersEach, locations, instructionsEach, resultWords, recordSize, longestTrace};
+ghost use Rattle.model.specs.Sizes.{processors, registersEach, locations, instructionsEach, outcomeCells, resultWords, recordSize, longestTrace};
 ghost use Rattle.model.specs.Kinds.{tableRows};
+use crate::answer::Answer;
 use crate::kind::Role;
 use crate::record::Record;
 
@@ -38,7 +39,7 @@ impl Program {
     pub const LONGEST: usize = Self::PLACES * (Role::PHASES + 1);
 }
 
-// The registers, processor by processor, and memory: what initial records set and a result reports.
+// The registers, processor by processor, and memory: what initial records set, and an outcome.
 pub struct Cells {
     pub registers: [u32; Cells::ALL_REGISTERS],
     pub memory: [u32; Cells::LOCATIONS],
@@ -52,20 +53,21 @@ impl Cells {
 
     pub const ALL_REGISTERS: usize = Program::PROCESSORS * Self::REGISTERS;
 
-    // The words of a result.
-    pub const WORDS: usize = Self::ALL_REGISTERS + Self::LOCATIONS;
+    // In an outcome.
+    pub const ALL: usize = Self::ALL_REGISTERS + Self::LOCATIONS;
 }
 
 // The limits of the code are those of the definitions.
-pub fn limits() -> [usize; 8]
-    ensures { λ r. ⌜ r ≡ processors ∷ registersEach ∷ locations ∷ instructionsEach ∷ resultWords ∷ recordSize ∷ longestTrace ∷ tableRows ∷ [] ⌝ }
+pub fn limits() -> [usize; 9]
+    ensures { λ r. ⌜ r ≡ processors ∷ registersEach ∷ locations ∷ instructionsEach ∷ outcomeCells ∷ resultWords ∷ recordSize ∷ longestTrace ∷ tableRows ∷ [] ⌝ }
 {
     [
         Program::PROCESSORS,
         Cells::REGISTERS,
         Cells::LOCATIONS,
         Program::INSTRUCTIONS,
-        Cells::WORDS,
+        Cells::ALL,
+        Answer::WORDS,
         Record::BYTES,
         Program::LONGEST,
         Role::KINDS,

@@ -5,7 +5,7 @@ ghost use Rattle.io.specs.Counts.{Counts};
 ghost use Rattle.model.specs.Calls.{checked};
 ghost use Rattle.text.specs.Reply.{listed};
 ghost use Rattle.text.specs.Text.{Adds};
-use model::table::Cells;
+use model::answer::Answer;
 use program_files::both::read_both;
 use program_files::read;
 use program_files::say::say;
@@ -16,9 +16,9 @@ use text::reply::put_reply;
 pub fn put_listing(out: &mut [u8], table: &[u8], trace: &[u8]) -> usize
     requires { do ⌜ (← ⟦reply::MOST⟧) ≤ length (now out) ⌝ }
     ensures { λ r. ⌜ Counts r (now (out .exit)) ⌝ }
-    ensures { λ r. do ⌜ Adds (now (out .entry)) 0 (listed (checked (now (table .entry)) (now (trace .entry)) (replicate (← ⟦Cells::WORDS⟧ .entry) 0))) (now (out .exit)) r ⌝ }
+    ensures { λ r. do ⌜ Adds (now (out .entry)) 0 (listed (checked (now (table .entry)) (now (trace .entry)) (replicate (← ⟦Answer::WORDS⟧ .entry) 0))) (now (out .exit)) r ⌝ }
 {
-    let mut room = [0u32; Cells::WORDS];
+    let mut room = [0u32; Answer::WORDS];
     let answer = checker::check::check(table, trace, &mut room);
     put_reply(out, answer, &room)
 }

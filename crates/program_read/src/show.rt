@@ -28,7 +28,7 @@ const MOST: usize = 1048576;
 const ROOM: usize = MOST + TRIED;
 
 // The bytes of the longest table: each cell is given at most once.
-const TABLE: usize = (Cells::WORDS + Program::PLACES) * Record::BYTES;
+const TABLE: usize = (Cells::ALL + Program::PLACES) * Record::BYTES;
 
 fn zeros() -> [u8; ROOM]
     ensures { λ r. do ⌜ (← ⟦ROOM⟧ .entry) ≡ length r ⌝ }

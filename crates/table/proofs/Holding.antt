@@ -11,7 +11,7 @@ use lib.Dec.{eqb, leb}
 use borrow.Author.Tests.{leb-false}
 use Rattle.model.specs.declared.record.Record.{Record}
 use Rattle.model.specs.declared.table.Cells.{Cells}
-use Rattle.model.specs.Sizes.{processors, registersEach, instructionsEach, resultWords}
+use Rattle.model.specs.Sizes.{processors, registersEach, instructionsEach, outcomeCells}
 use Rattle.model.specs.Program.{Instruction}
 use Rattle.model.specs.Machine.{Machine}
 use Rattle.model.specs.Kinds.{Entry, initialMemory, initialRegister, instruction, tableUses, entryOf}
@@ -36,7 +36,7 @@ pub record Holds (g : Columns) (c : Cells) (s : Given) (es : List Entry) : Type 
   pub machine : startOf g c ≡ start es
   pub fits : Fits g
   pub sized : Sized c
-  pub flagged : length (s .cells) ≡ resultWords
+  pub flagged : length (s .cells) ≡ outcomeCells
   pub counts : (p : ℕ) → countIn g p ≡ instructionsOf p es
   pub begun : s .instruction ≡ any isInstruction es
   pub memory : (x : ℕ) → getD (s .cells) (memoryAt x) false ≡ any (givesMemory x) es
@@ -67,8 +67,8 @@ holds-none = record {
   flagged = refl;
   counts = λ p. alike {A = ℕ} 0 processors p;
   begun = refl;
-  memory = λ x. alike false resultWords (memoryAt x);
-  registers = λ p r k h. alike false resultWords (registerAt p r);
+  memory = λ x. alike false outcomeCells (memoryAt x);
+  registers = λ p r k h. alike false outcomeCells (registerAt p r);
 }
 
 -- ---- the code's tests are the model's

@@ -1,4 +1,4 @@
--- What reading a table in place promises: the verdict v, the program g, and the state m at its start.
+-- What reading a table in place promises: the verdict v, the program g, and the state m at its start, where no read is counted.
 use mathlib.Core.Path.{_≡_}
 use mathlib.Core.List.{List}
 use Prim.Native.Nat.{ℕ}
@@ -11,4 +11,5 @@ use Rattle.table.specs.Reads.{started}
 
 pub record Begins (table : List ℕ) (v : Verdict) (g : Columns) (m : State) : Type 0 where
   pub says : testedOf v (machineOf g m) ≡ started table
+  pub none : m .own ≡ 0
   pub ready : Ready g m

@@ -30,7 +30,7 @@ pub fn read<'a>(
     if n == 0 {
         return Verdict::Passed;
     }
-    let mut given = [false; Cells::WORDS];
+    let mut given = [false; Cells::ALL];
     let mut begun = false;
     let mut i = 0;
     while i < n {

@@ -5,7 +5,7 @@ use Prim.Native.Nat.{_<_}
 use lib.ListN.{getD, set, replicate}
 use lib.Dec.{leb}
 use Rattle.model.specs.declared.record.Record.{Record}
-use Rattle.model.specs.Sizes.{processors, registersEach, locations, instructionsEach, resultWords}
+use Rattle.model.specs.Sizes.{processors, registersEach, locations, instructionsEach, outcomeCells}
 use Rattle.model.specs.Fields.{Known}
 use Rattle.model.specs.Kinds.{Entry, initialMemory, initialRegister, instruction, tableUses}
 use Rattle.model.specs.Code.{Columns, registerAt, countIn}
@@ -22,7 +22,7 @@ abbrev pub flags : List Bool → Bool → Given
 flags cells begun = record { cells = cells; instruction = begun }
 
 abbrev pub nothingGiven : Given
-nothingGiven = flags (replicate resultWords false) false
+nothingGiven = flags (replicate outcomeCells false) false
 
 -- what tests 2, 3, 4 leave: the kind is known, and every field is in range, used or not
 pub record Formed (r : Record) : Type 0 where

@@ -4,7 +4,7 @@ ghost use Prim.Native.Nat.{_+_, _≤_, _<_};
 ghost use lib.ListN.{length};
 ghost use Rattle.model.specs.Reply.{numberOf};
 ghost use Rattle.text.specs.Text.{Adds};
-ghost use Rattle.text.specs.Reply.{finishedLine, processorLine, processorLines, memoryLine, refusedLine};
+ghost use Rattle.text.specs.Reply.{finishedLine, processorLine, processorLines, memoryLine, ownLine, refusedLine};
 use crate::put::DIGITS;
 use crate::put::LINE_END;
 use crate::put::SPACED;
@@ -12,6 +12,7 @@ use crate::put::put_byte;
 use crate::put::put_number;
 use crate::put::put_numbers;
 use crate::put::put_word;
+use model::answer::Answer;
 use model::answer::Refusal;
 use model::number::number;
 use model::table::Cells;
@@ -27,6 +28,9 @@ pub const PROCESSORS: usize = PROCESSOR * Program::PROCESSORS;
 
 // Nor that of memory: its letter, the locations and the line's end.
 pub const MEMORY: usize = SPACED * Cells::LOCATIONS + 2;
+
+// Nor that of reads from own buffers: its word of four bytes, how many they are and the line's end.
+pub const OWN: usize = DIGITS + 5;
 
 pub fn put_refused(out: &mut [u8], why: Refusal, place: usize) -> usize
     requires { do ⌜ (← ⟦FIRST⟧) ≤ length (now out) ⌝ }
@@ -52,7 +56,7 @@ pub fn put_finished(out: &mut [u8], steps: usize) -> usize
 
 fn put_processor(out: &mut [u8], at: usize, room: &[u32], p: usize) -> usize
     requires { do ⌜ at + (← ⟦PROCESSOR⟧) ≤ length (now out) ⌝ }
-    requires { do ⌜ length (now room) ≡ (← ⟦Cells::WORDS⟧) ⌝ }
+    requires { do ⌜ length (now room) ≡ (← ⟦Answer::WORDS⟧) ⌝ }
     requires { do ⌜ p < (← ⟦Program::PROCESSORS⟧) ⌝ }
     ensures { λ r. ⌜ Adds (now (out .entry)) at (processorLine (now (room .entry)) p) (now (out .exit)) r ⌝ }
     ensures { λ r. do ⌜ r ≤ at + (← ⟦PROCESSOR⟧ .entry) ⌝ }
@@ -67,7 +71,7 @@ fn put_processor(out: &mut [u8], at: usize, room: &[u32], p: usize) -> usize
 
 pub fn put_processors(out: &mut [u8], at: usize, room: &[u32]) -> usize
     requires { do ⌜ at + (← ⟦PROCESSORS⟧) ≤ length (now out) ⌝ }
-    requires { do ⌜ length (now room) ≡ (← ⟦Cells::WORDS⟧) ⌝ }
+    requires { do ⌜ length (now room) ≡ (← ⟦Answer::WORDS⟧) ⌝ }
     ensures { λ r. do ⌜ Adds (now (out .entry)) at (processorLines (now (room .entry)) (← ⟦Program::PROCESSORS⟧ .entry)) (now (out .exit)) r ⌝ }
     ensures { λ r. do ⌜ r ≤ at + (← ⟦PROCESSORS⟧ .entry) ⌝ }
 {
@@ -82,7 +86,7 @@ pub fn put_processors(out: &mut [u8], at: usize, room: &[u32]) -> usize
 
 pub fn put_memory(out: &mut [u8], at: usize, room: &[u32]) -> usize
     requires { do ⌜ at + (← ⟦MEMORY⟧) ≤ length (now out) ⌝ }
-    requires { do ⌜ length (now room) ≡ (← ⟦Cells::WORDS⟧) ⌝ }
+    requires { do ⌜ length (now room) ≡ (← ⟦Answer::WORDS⟧) ⌝ }
     ensures { λ r. ⌜ Adds (now (out .entry)) at (memoryLine (now (room .entry))) (now (out .exit)) r ⌝ }
     ensures { λ r. do ⌜ r ≤ at + (← ⟦MEMORY⟧ .entry) ⌝ }
 {
@@ -90,5 +94,17 @@ pub fn put_memory(out: &mut [u8], at: usize, room: &[u32]) -> usize
     let end = first + Cells::LOCATIONS;
     let at = put_byte(out, at, b'm');
     let at = put_numbers(out, at, &room[first..end]);
+    put_byte(out, at, LINE_END)
+}
+
+pub fn put_own(out: &mut [u8], at: usize, room: &[u32]) -> usize
+    requires { do ⌜ at + (← ⟦OWN⟧) ≤ length (now out) ⌝ }
+    requires { do ⌜ length (now room) ≡ (← ⟦Answer::WORDS⟧) ⌝ }
+    ensures { λ r. ⌜ Adds (now (out .entry)) at (ownLine (now (room .entry))) (now (out .exit)) r ⌝ }
+    ensures { λ r. do ⌜ r ≤ at + (← ⟦OWN⟧ .entry) ⌝ }
+{
+    let own = room[Cells::ALL] as u64;
+    let at = put_word(out, at, b"own ");
+    let at = put_number(out, at, own);
     put_byte(out, at, LINE_END)
 }

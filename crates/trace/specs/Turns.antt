@@ -14,7 +14,7 @@ use Rattle.model.specs.Record.{recordAt, recordsFrom}
 use Rattle.model.specs.Tests.{inOrder}
 use Rattle.model.specs.Calls.{stepTests, takeRecord, following}
 use Rattle.model.specs.Code.{Columns, Gives}
-use Rattle.machine.specs.View.{machineOf}
+use Rattle.machine.specs.View.{reachedOf}
 use Rattle.machine.specs.Ready.{Ready}
 use Rattle.machine_state.specs.State.{State}
 use Rattle.trace.specs.Follows.{Follows}
@@ -42,7 +42,7 @@ pub record Looks (trace : List ℕ) (i : ℕ) (v : Verdict) (due : Bool) (e : Re
 pub record FollowsUpTo (g : Columns) (s : State) (before : Verdict) (trace : List ℕ) (m : State) (i : ℕ) (v : Verdict) : Type 0 where
   pub ready : Ready g m
   pub going : v ≡ Passed → before ≡ Passed
-  pub rest : v ≡ Passed → length trace % 8 ≡ 0 → inOrder takeRecord i (machineOf g m) (recordsFrom trace i (length trace / 8 - i)) ≡ following (machineOf g s) trace
+  pub rest : v ≡ Passed → length trace % 8 ≡ 0 → inOrder takeRecord i (reachedOf g m) (recordsFrom trace i (length trace / 8 - i)) ≡ following (reachedOf g s) trace
   pub stopped : (why : Refusal) (place : ℕ) → v ≡ Refused why place → Follows g s before trace (Refused why place) m
 
 -- w is the verdict of the whole, whatever the program and the states

@@ -40,6 +40,22 @@ const STOPPING_KINDS: [u8; 3] = [
 
 const LOCKED_KINDS: [u8; 2] = [kinds::LOCKED_EXCHANGE, kinds::LOCKED_EXCHANGE_AND_ADD];
 
+/// What waits, and what may read it while it does; at times what empties the buffer.
+const READING_BACK_KINDS: [u8; 12] = [
+    kinds::STORE_CONSTANT,
+    kinds::STORE_CONSTANT,
+    kinds::STORE_CONSTANT,
+    kinds::STORE_CONSTANT,
+    kinds::STORE_REGISTER,
+    kinds::LOAD,
+    kinds::LOAD,
+    kinds::LOAD,
+    kinds::EXCHANGE,
+    kinds::EXCHANGE_AND_ADD,
+    kinds::EXCHANGE_AND_ADD,
+    kinds::LOCKED_EXCHANGE,
+];
+
 /// What a table has in use: few processors, registers and locations, so that processors meet.
 #[derive(Clone, Copy)]
 pub struct InUse {
@@ -101,6 +117,18 @@ pub fn meeting(dice: &mut Dice) -> Vec<Record> {
         programs.push(kinds.into_iter().map(instruction).collect());
     }
     joined(dice, in_use, programs)
+}
+
+/// Processors read what they and others write, and what still waits of it.
+pub fn reading_back(dice: &mut Dice) -> Vec<Record> {
+    let in_use = InUse {
+        kinds: &READING_BACK_KINDS,
+        processors: dice.pick(&[1, 2, 3, PROCESSORS]),
+        registers: dice.pick(&[1, 2]),
+        locations: dice.pick(&[1, 2, 2, 3]),
+    };
+    let each = dice.pick(&[3, 5, 6, 7, 8, INSTRUCTIONS]);
+    filled(dice, in_use, each)
 }
 
 /// Each processor that is in use has at most so many instructions.

@@ -58,7 +58,7 @@ use Rattle.model.specs.Code.{testedOf}
 use Rattle.model.specs.Reply.{replyOf}
 use Rattle.machine_state.specs.Packed.{stateOf, columnsOf}
 use Rattle.machine.specs.Arrays.{startIn}
-use Rattle.machine.specs.View.{machineOf}
+use Rattle.machine.specs.View.{reachedOf}
 use Rattle.table.specs.Reads.{noProgram, noCells}
 use Rattle.trace.specs.Follows.{Follows}
 use Rattle.table.specs.Begins.{Begins}
@@ -428,8 +428,8 @@ module _ {M : Type 1} (𝓤 : URA M) (H : Heap 𝓤) (A : Atoms 𝓤) (W : Given
                 { ptr = (l₅, 0); name = δ2-1; now = (last-end-r .1 .0) },
             (end-r, (t₁, (t₂, tt))),
           ),
-        ) ws) ⊛ raw (fact 𝓤 (replyOf answer-r (ws .1 .1 .1 .1 .0) ≡ replied (t₂ .now) (testedOf end-r (machineOf (columnsOf (last-read-r .0)) (stateOf
-        (last-end-r .1 .0)))) (checkedAt (t₁ .now) (t₂ .now)))))) (id⊢ 𝓤 _) $ pick ! (λ last-answer-r. split ! $ move ! (1 ∷ []) $ heard ! (replyOf answer-r (last-answer-r .1 .1 .1 .1 .0) ≡ replied (t₂ .now) (testedOf end-r (machineOf
+        ) ws) ⊛ raw (fact 𝓤 (replyOf answer-r (ws .1 .1 .1 .1 .0) ≡ replied (t₂ .now) (testedOf end-r (reachedOf (columnsOf (last-read-r .0)) (stateOf
+        (last-end-r .1 .0)))) (checkedAt (t₁ .now) (t₂ .now)))))) (id⊢ 𝓤 _) $ pick ! (λ last-answer-r. split ! $ move ! (1 ∷ []) $ heard ! (replyOf answer-r (last-answer-r .1 .1 .1 .1 .0) ≡ replied (t₂ .now) (testedOf end-r (reachedOf
         (columnsOf (last-read-r .0)) (stateOf (last-end-r .1 .0)))) (checkedAt (t₁ .now) (t₂ .now))) (λ told-answer-r. move ! (1 ∷ []) $ split ! $ move ! (2 ∷ []) $ fsplit ! $ drop ! $ fsplit ! $ drop ! $ fsplit ! $ drop ! $ fsplit ! $
         drop ! $ fsplit ! $ fsplit ! $ move ! (1 ∷ []) $ feqL ! (λ long-answer-r. move ! (1 ∷ []) $ drop ! $
         move ! (2 ∷ []) $ peeks ! B.the-row (Is B.the-row) (shows 𝓤 H A B.the-row) answer-r (w-answer ∷ []) (λ answer-r-is. drop ! $ move ! (1 ∷ []) $ split ! $ move ! (1 ∷ []) $ split ! $ move ! (1 ∷ []) $ split ! $ move ! (1 ∷ []) $

@@ -54,10 +54,10 @@ use Rattle.model.specs.Calls.{replied, checkedAt}
 use Rattle.model.specs.Code.{testedOf}
 use Rattle.model.specs.Reply.{replyOf}
 use Rattle.machine_state.specs.Packed.{stateOf, columnsOf}
-use Rattle.machine.specs.View.{machineOf}
+use Rattle.machine.specs.View.{reachedOf}
 use Rattle.machine.specs.Ready.{Ready}
 use Rattle.checker_report.specs.Reports.{repliedIn}
-use Rattle.checker_report.proofs.Replying.{cells-long, replied-is}
+use Rattle.checker_report.proofs.Replying.{reportable, replied-is}
 use Rattle.checker_report.proofs.reply.reply_parts as reply-parts
 use Rattle.checker_report.proofs.reply.reply_parts.Symbol as reply-parts-def
 use Rattle.checker_report.proofs.reply.reply_parts.Symbol.{name as #reply-parts}
@@ -136,7 +136,7 @@ module _ {M : Type 1} (𝓤 : URA M) (H : Heap 𝓤) (A : Atoms 𝓤) (W : Given
   abbrev Post : Val → SProp 𝓤
   Post = walkOf 𝓤 H A f.ended stayed (f.clauses 𝓤 H A at-mem run) .post (((κ₀, (κ₁, (κ₂, (κ₃, tt)))), (q₀, (q₁, (q₂, (q₃, tt)))), tt, x, at), tt)
 
-  exits : (u : Val) (r : Answer) (z₄ : List ℕ) → replyOf r z₄ ≡ replied (t₄ .now) (testedOf v₂ (machineOf (columnsOf x₀) (stateOf x₁))) (checkedAt (t₃ .now) (t₄ .now)) → length z₄ ≡ length (t₄ .now) → Is B.the-row r (u ∷ [])
+  exits : (u : Val) (r : Answer) (z₄ : List ℕ) → replyOf r z₄ ≡ replied (t₄ .now) (testedOf v₂ (reachedOf (columnsOf x₀) (stateOf x₁))) (checkedAt (t₃ .now) (t₄ .now)) → length z₄ ≡ length (t₄ .now) → Is B.the-row r (u ∷ [])
       → ent 𝓤 (⋆ 𝓤 H A (‵ (flft κ₀ q₀) ∷ ‵ (flft κ₁ q₁) ∷ ‵ (flft κ₂ q₂) ∷ ‵ (flft κ₃ q₃) ∷ ‵ (ftrue) ∷ ‵ (Own₀) ∷ ‵ (Own₁) ∷ ‵ (Own₃) ∷ ‵ (finally u32 (t₄ .name) z₄) ∷ [])) (Post u)
   exits u r z₄ told long₄ is =
       qed W (‵ (flft κ₀ q₀) ∷ ‵ (flft κ₁ q₁) ∷ ‵ (flft κ₂ q₂) ∷ ‵ (flft κ₃ q₃) ∷ ‵ (ftrue) ∷ ‵ (Own₀) ∷ ‵ (Own₁) ∷ ‵ (Own₃) ∷ ‵ (finally u32 (t₄ .name) z₄) ∷ []) ∵
@@ -181,7 +181,7 @@ module _ {M : Type 1} (𝓤 : URA M) (H : Heap 𝓤) (A : Atoms 𝓤) (W : Given
 
   goes-parts : (ν : ℕ) (γs₀ : Names (program .parts)) (γs₁ : Names (machine .parts)) → ent 𝓤 (sep 𝓤 (sep 𝓤 (A .lft (ν ∷ []) fullShare) (sep 𝓤 (A .lft κ₂ q₂) (sep 𝓤 (A .lft κ₃ q₃) (emp 𝓤)))) (sem 𝓤 H A (owned₀ ν γs₀ γs₁))) (On-reply-parts 𝓤
       H A at-mem run .pre (to-parts ν γs₀ γs₁))
-  goes-parts ν γs₀ γs₁ = qed W ((‵ (flft (ν ∷ []) fullShare) ⊛ (‵ (flft κ₂ q₂) ⊛ (‵ (flft κ₃ q₃) ⊛ ‵ ftrue))) ∷ ‵ (owned₀ ν γs₀ γs₁) ∷ []) ∵ says ! (cells-long (x₀ .codes) (x₀ .constants) (x₁ .cells) (x₁ .locations) (x₁ .values) (x₁
+  goes-parts ν γs₀ γs₁ = qed W ((‵ (flft (ν ∷ []) fullShare) ⊛ (‵ (flft κ₂ q₂) ⊛ (‵ (flft κ₃ q₃) ⊛ ‵ ftrue))) ∷ ‵ (owned₀ ν γs₀ γs₁) ∷ []) ∵ says ! (reportable (x₀ .codes) (x₀ .constants) (x₁ .cells) (x₁ .locations) (x₁ .values) (x₁
       .marks) need) $ done !
 
   module _ (𝓣 : Tables 𝓤 H) (known : Known 𝓤 H A at-mem run (𝓣 .C)) where

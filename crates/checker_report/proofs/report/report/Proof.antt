@@ -18,22 +18,22 @@ returns-2 c =
 slice-aggregate-copy : tie.Need-slice-aggregate-copy
 slice-aggregate-copy c =
     let s = c .before .before .before .before .before .before in
-    sym (length-take-le 24 (s .args .cells .now) (s .pre))
+    sym (length-take-le 24 (s .args .cells .now) (s .pre .long))
 
 copy-requires : tie.Need-copy-requires
 copy-requires c κs =
     let s = c .before .before .before .before .before .before .before in
-    let cut : length (take 24 (s .args .cells .now)) ≡ 24 = length-take-le 24 (s .args .cells .now) (s .pre) in
+    let cut : length (take 24 (s .args .cells .now)) ≡ 24 = length-take-le 24 (s .args .cells .now) (s .pre .long) in
     let l = c .before .before .before .if2 .left in
     omega arith
 
 returns-3 : tie.Need-returns-3
 returns-3 c =
-    let call = c .before .before in
+    let call = c .before .before .before in
     let fits = call .before .before .before .before in
     let done = fits .before .before in
     let s = done .before .before in
-    reports (s .args .codes .now) (s .args .cells .now) (s .args .marks .now) _ _ _ (done .is-finished .ensures) (fits .before .if1 .left) (fits .if2 .left) (s .pre) _ (call .copy .ensures)
+    reports (s .args .codes .now) (s .args .cells .now) (s .args .marks .now) _ _ _ (done .is-finished .ensures) (fits .before .if1 .left) (fits .if2 .left) (s .pre .long) _ (call .copy .ensures)
 
 pub report-spec : {M : Type 1} → statement M
 report-spec =
@@ -44,5 +44,8 @@ report-spec =
     returns-2
     slice-aggregate-copy
     copy-requires
+    (λ c. search needs)
+    (λ c. search needs)
+    (λ c. search needs)
     (λ c. search needs)
     returns-3)

@@ -57,7 +57,7 @@ use Rattle.model.specs.Calls.{replied, completedAt}
 use Rattle.model.specs.Code.{testedOf}
 use Rattle.model.specs.Reply.{replyOf}
 use Rattle.machine_state.specs.Packed.{stateOf, columnsOf}
-use Rattle.machine.specs.View.{machineOf}
+use Rattle.machine.specs.View.{reachedOf}
 use Rattle.finish_step.specs.Finishing.{Underway}
 use Rattle.finish_run.proofs.reply.finish_parts as finish-parts
 use Rattle.finish_run.proofs.reply.finish_parts.Symbol as finish-parts-def
@@ -111,7 +111,7 @@ module _ {M : Type 1} (𝓤 : URA M) (H : Heap 𝓤) (A : Atoms 𝓤) (W : Given
   abbrev Post : Val → SProp 𝓤
   Post = walkOf 𝓤 H A f.ended stayed (f.clauses 𝓤 H A at-mem run) .post (((κ₀, (κ₁, (κ₂, tt))), (q₀, (q₁, (q₂, tt))), tt, x, at), tt)
 
-  exits : (u : Val) (r : Answer) (y₁ : Machine) (z₃ : List ℕ) → replyOf r z₃ ≡ replied (t₃ .now) (testedOf v₂ (machineOf (columnsOf x₀) (stateOf x₁))) (completedAt (t₃ .now)) → length z₃ ≡ length (t₃ .now) → Is B.the-row r (u ∷ [])
+  exits : (u : Val) (r : Answer) (y₁ : Machine) (z₃ : List ℕ) → replyOf r z₃ ≡ replied (t₃ .now) (testedOf v₂ (reachedOf (columnsOf x₀) (stateOf x₁))) (completedAt (t₃ .now)) → length z₃ ≡ length (t₃ .now) → Is B.the-row r (u ∷ [])
       → ent 𝓤 (⋆ 𝓤 H A (‵ (fobs γ₁ (T.the-row .coded .code y₁)) ∷ ‵ (fbor κ₁ (Body (mem T.the-row) b₁ o₁ γ₁)) ∷ ‵ (flft κ₀ q₀) ∷ ‵ (flft κ₁ q₁) ∷ ‵ (flft κ₂ q₂) ∷ ‵ (ftrue) ∷ ‵ (Own₀) ∷ ‵ (finally u8 (t₃ .name) z₃) ∷ [])) (Post u)
   exits u r y₁ z₃ told long₃ is =
       qed W (‵ (fobs γ₁ (T.the-row .coded .code y₁)) ∷ ‵ (fbor κ₁ (Body (mem T.the-row) b₁ o₁ γ₁)) ∷ ‵ (flft κ₀ q₀) ∷ ‵ (flft κ₁ q₁) ∷ ‵ (flft κ₂ q₂) ∷ ‵ (ftrue) ∷ ‵ (Own₀) ∷ ‵ (finally u8 (t₃ .name) z₃) ∷ []) ∵
@@ -206,8 +206,8 @@ module _ {M : Type 1} (𝓤 : URA M) (H : Heap 𝓤) (A : Atoms 𝓤) (W : Given
         (no-more !))))))))) (λ u.
         use1 W (later (some (λ (r : Answer). ((‵ (flft (ν ∷ []) fullShare) ⊛ (‵ (flft κ₂ q₂) ⊛ ‵ ftrue)) ⊛ ‵ (B.the-row .own r (u ∷ []))) ⊛ raw (ensured 𝓤 H A finish-parts.ended (finish-parts.clauses 𝓤 H A at-mem run) (ν ∷ [], (κ₂, tt))
         (passed γs₀ γs₁) tt r)))) (id⊢ 𝓤 _) $ await ! tt $ pick ! (λ r. split ! $ move ! (1 ∷ []) $
-        use1 W (some (λ (ws : Ends). ‵ (lasts finish-parts.ended (ν ∷ [], (κ₂, tt)) (passed γs₀ γs₁) ws) ⊛ raw (fact 𝓤 (replyOf r (ws .1 .1 .1 .1 .1 .1 .1 .0) ≡ replied (t₃ .now) (testedOf v₂ (machineOf (columnsOf x₀) (stateOf x₁)))
-        (completedAt (t₃ .now)))))) (id⊢ 𝓤 _) $ pick ! (λ last. split ! $ move ! (1 ∷ []) $ heard ! (replyOf r (last .1 .1 .1 .1 .1 .1 .1 .0) ≡ replied (t₃ .now) (testedOf v₂ (machineOf (columnsOf x₀) (stateOf x₁))) (completedAt (t₃
+        use1 W (some (λ (ws : Ends). ‵ (lasts finish-parts.ended (ν ∷ [], (κ₂, tt)) (passed γs₀ γs₁) ws) ⊛ raw (fact 𝓤 (replyOf r (ws .1 .1 .1 .1 .1 .1 .1 .0) ≡ replied (t₃ .now) (testedOf v₂ (reachedOf (columnsOf x₀) (stateOf x₁)))
+        (completedAt (t₃ .now)))))) (id⊢ 𝓤 _) $ pick ! (λ last. split ! $ move ! (1 ∷ []) $ heard ! (replyOf r (last .1 .1 .1 .1 .1 .1 .1 .0) ≡ replied (t₃ .now) (testedOf v₂ (reachedOf (columnsOf x₀) (stateOf x₁))) (completedAt (t₃
         .now))) (λ told-r. move ! (1 ∷ []) $ split ! $ move ! (2 ∷ []) $
         move ! (2 ∷ []) $ peeks ! B.the-row (Is B.the-row) (shows 𝓤 H A B.the-row) r (u ∷ []) (λ is. drop ! $
         land ! (from ! (stop !)) (init ! 34 refl (EL.lawful B.the-type B′.the-laws 𝓤 H A W tt .typed r _ is .0)) $

@@ -12,12 +12,14 @@ use Rattle.text.proofs.reply.put_reply.Tie as tie
 returns : tie.Need-returns
 unfolding linesOf listed
 returns c =
-    let memory = c .before .before in
+    let own = c .before .before in
+    let memory = own .before .before .before .before in
     let processors = memory .before .before .before .before in
     let finished = processors .before .before .before .before in
     let answer = finished .before .before .before in
     let room = answer .before .before .before .before .args .room .now in
-    let text = then (finished .put-finished .ensures .0) (then (processors .put-processors .ensures .0) (memory .put-memory .ensures .0)) in
+    let last = then (memory .put-memory .ensures .0) (own .put-own .ensures .0) in
+    let text = then (finished .put-finished .ensures .0) (then (processors .put-processors .ensures .0) last) in
     (said text (sym (ap (λ (a : Answer). listed (replyOf a room)) (answer .answer .given .1))), counts _ _ (search needs))
 
 returns-2 : tie.Need-returns-2
@@ -37,6 +39,7 @@ put-reply-spec =
     tie.close
     (tie.spec
     (λ c. search needs)
+    (λ c κs. search needs)
     (λ c κs. search needs)
     (λ c κs. search needs)
     (λ c κs. search needs)
