@@ -23,7 +23,8 @@ use Rattle.machine_rules.specs.Offers.{waitingFrom, nextIn}
 use Rattle.machine_state.specs.State.{State}
 use Rattle.machine_state.specs.Packed.{registersIn, memoryIn, keptIn, issuedAt, drainedAt, issuedIn, drainedIn, stateIn}
 use Rattle.machine_state.proofs.Rows as rows
-use Rattle.machine_take.specs.Takes.{names, cellOf, metIn, attempted, waitsIn, Reads, Writes, Holds, Assigns}
+use Rattle.machine_take.specs.Takes.{names, cellOf, metIn, attempted, Writes, Holds, Assigns}
+use Rattle.machine_read.specs.Reads.{waitsIn, Reads}
 use Rattle.machine.specs.Arrays.{nextOf}
 use Rattle.machine.specs.View.{waitingIn}
 use Rattle.machine.specs.Stores.{receivedIn, countedIn, carriedOut}

@@ -34,7 +34,8 @@ use Rattle.machine_rules.proofs.Table.{rows, in-rows}
 use Rattle.machine_state.specs.State.{State}
 use Rattle.machine_state.specs.Packed.{memoryAt, standsAt, phaseAt, issuedAt, drainedAt, countsIn, stateIn, columnsIn}
 use Rattle.machine_store.specs.Stores.{oneMoreDrained, advanced, Countable, Onward}
-use Rattle.machine_take.specs.Takes.{names, MayDrain, Drains}
+use Rattle.machine_take.specs.Takes.{names}
+use Rattle.machine_drain.specs.Drains.{MayDrain, Drains}
 use Rattle.machine.specs.Arrays.{isDry, oldestOf, nextOf, offeredOf}
 use Rattle.machine.specs.Stores.{afterDrain, advancedIn, carriedOut, afterEvent}
 use Rattle.machine.specs.View.{machineOf}

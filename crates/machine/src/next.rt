@@ -1,6 +1,7 @@
 // The next program step of a processor.
 ghost use Rattle.machine_state.specs.Packed.{stateIn};
 ghost use Rattle.machine.specs.Next.{MayTake, TakesNext};
+use machine_read::read;
 use machine_rules::program::FENCE;
 use machine_rules::program::LOCK;
 use machine_rules::program::READ;
@@ -9,7 +10,6 @@ use machine_rules::program::WRITE;
 use machine_state::state::Machine;
 use machine_take::hold;
 use machine_take::local;
-use machine_take::read;
 use machine_take::write;
 use model::answer::Attempt;
 use model::record::Record;

@@ -10,17 +10,16 @@ use Rattle.model.specs.declared.answer.Attempt.{Attempt}
 use Rattle.model.specs.declared.answer.Attempt.the-variants.{Taken}
 use Rattle.model.specs.declared.answer.Condition.{Condition}
 use Rattle.model.specs.declared.answer.Condition.the-variants.{AnotherKind, NothingWaits, LockHeld, BufferNotEmpty, NotRight}
-use Rattle.model.specs.Code.{registerAt, placeAt, actsOf, taken, judged}
+use Rattle.model.specs.Code.{registerAt, actsOf, taken, judged}
 use Rattle.model.specs.declared.record.Record.{Record}
 use Rattle.model.specs.Sizes as sizes
 use Rattle.model.specs.Sizes.{processors, registersEach}
-use Rattle.model.specs.Machine.{WaitingWrite}
 use Rattle.model.specs.Rules.{conditions}
-use Rattle.model.specs.Step.{originIn, seenIn, firstMet}
+use Rattle.model.specs.Step.{firstMet}
 use Rattle.machine_rules.specs.Guards.{blockedIn}
-use Rattle.machine_rules.specs.Offers.{waitingFrom, Log}
-use Rattle.machine_state.specs.Packed.{memoryAt, keptAt, issuedAt, drainedAt, holderAt, holderIn}
-use Rattle.machine_store.specs.Stores.{received, counted, exchanged, nextPlace, oneMoreIssued, oneMoreDrained, Issuable, Countable}
+use Rattle.machine_rules.specs.Offers.{Log}
+use Rattle.machine_state.specs.Packed.{keptAt, issuedAt, drainedAt, holderAt, holderIn}
+use Rattle.machine_store.specs.Stores.{exchanged, nextPlace, oneMoreIssued, Issuable}
 
 -- the event names location y and value w
 abbrev pub names : Record → ℕ → ℕ → Bool
@@ -51,41 +50,6 @@ pub record HasRegister (i e : Record) : Type 0 where
 
 abbrev pub LogOf : (locations values marks : List ℕ) → ℕ → Type 0
 LogOf locations values marks p = Log locations values (getD marks (issuedAt p) 0) (getD marks (drainedAt p) 0) p
-
--- ---- drain
-
--- the write after d drained ones is e's
-abbrev pub drainRight : (locations values : List ℕ) (d : ℕ) → Record → Bool
-drainRight locations values d e = let k = placeAt (e .processor) d in names e (getD locations k 0) (getD values k 0)
-
-pub record Drains (cells locations values marks : List ℕ) (e : Record) (r : Attempt) (cells' marks' : List ℕ) : Type 0 where
-  pub says : r ≡ attempted 3 marks (e .processor) (drainRight locations values (getD marks (drainedAt (e .processor)) 0) e)
-  pub cellsAfter : cells' ≡ cond (taken r) (set cells (memoryAt (e .location)) (e .value)) cells
-  pub marksAfter : marks' ≡ cond (taken r) (oneMoreDrained marks (e .processor)) marks
-
-pub record MayDrain (locations values marks : List ℕ) (e : Record) : Type 0 where
-  pub log : LogOf locations values marks (e .processor)
-  pub location : e .location < sizes.locations
-
--- ---- read
-
--- what waits for processor p
-abbrev pub waitsIn : (locations values marks : List ℕ) → ℕ → List WaitingWrite
-waitsIn locations values marks p = waitingFrom locations values (getD marks (issuedAt p) 0) (getD marks (drainedAt p) 0) p
-
-abbrev pub readRight : (cells locations values marks : List ℕ) → Record → Record → Bool
-readRight cells locations values marks i e = names e (i .location) (seenIn (waitsIn locations values marks (e .processor)) (i .location) (getD cells (memoryAt (i .location)) 0))
-
-pub record Reads (cells locations values marks : List ℕ) (i e : Record) (r : Attempt) (cells' marks' : List ℕ) : Type 0 where
-  pub says : r ≡ attempted 1 marks (e .processor) (readRight cells locations values marks i e)
-  pub cellsAfter : cells' ≡ cond (taken r) (received cells (i .kind) (e .processor) (cellOf i e) (e .value)) cells
-  pub marksAfter : marks' ≡ cond (taken r) (counted marks (originIn (waitsIn locations values marks (e .processor)) (i .location))) marks
-
-pub record MayRead (locations values marks : List ℕ) (i e : Record) : Type 0 where
-  pub log : LogOf locations values marks (e .processor)
-  pub count : Countable marks
-  pub register : i .register < registersEach
-  pub location : i .location < sizes.locations
 
 -- ---- write
 

@@ -1,8 +1,8 @@
 use native.Mathlib.Omega.{arith}
 use borrow.Author.Needs.{needs}
-use Rattle.machine_take.proofs.Reading.{reached, when-held, when-right, when-not}
-use Rattle.machine_take.proofs.read.read.Statement.{statement}
-use Rattle.machine_take.proofs.read.read.Tie as tie
+use Rattle.machine_read.proofs.Reading.{reached, when-held, when-right, when-not}
+use Rattle.machine_read.proofs.read.read.Statement.{statement}
+use Rattle.machine_read.proofs.read.read.Tie as tie
 
 value-requires : tie.Need-value-requires
 value-requires c κs =

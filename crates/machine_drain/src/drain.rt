@@ -1,5 +1,5 @@
 // A drain, attempted.
-ghost use Rattle.machine_take.specs.Takes.{MayDrain, Drains};
+ghost use Rattle.machine_drain.specs.Drains.{MayDrain, Drains};
 use machine_rules::guards;
 use machine_state::state::Machine;
 use model::answer::Attempt;

@@ -17,7 +17,8 @@ use Rattle.machine_rules.specs.Lookups.{FindsIn, valueAt, Reaches}
 use Rattle.machine_rules.proofs.Offers.{reaches, value-is}
 use Rattle.machine_state.specs.Packed.{memoryAt, issuedAt, drainedAt, holderIn}
 use Rattle.machine_store.specs.Stores.{received, counted}
-use Rattle.machine_take.specs.Takes.{names, cellOf, LogOf, waitsIn, Reads}
+use Rattle.machine_take.specs.Takes.{names, cellOf, LogOf}
+use Rattle.machine_read.specs.Reads.{waitsIn, Reads}
 
 module _ (cells locations values marks : List ℕ) (i e : Record) (log : LogOf locations values marks (e .processor)) (from : Origin)
     (found : FindsIn locations (getD marks (issuedAt (e .processor)) 0) (getD marks (drainedAt (e .processor)) 0) (e .processor) (i .location) from) where

@@ -1,5 +1,5 @@
 // A read, attempted.
-ghost use Rattle.machine_take.specs.Takes.{MayRead, Reads};
+ghost use Rattle.machine_read.specs.Reads.{MayRead, Reads};
 use machine_rules::guards;
 use machine_rules::waiting;
 use machine_state::state::Machine;

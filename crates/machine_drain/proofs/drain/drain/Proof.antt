@@ -3,8 +3,8 @@ use borrow.Author.Tests.{eq-eqb, ne-eqb}
 use Rattle.model.specs.Rules.{conditions}
 use Rattle.model.specs.Step.{firstMet}
 use borrow.Author.Needs.{needs}
-use Rattle.machine_take.proofs.drain.drain.Statement.{statement}
-use Rattle.machine_take.proofs.drain.drain.Tie as tie
+use Rattle.machine_drain.proofs.drain.drain.Statement.{statement}
+use Rattle.machine_drain.proofs.drain.drain.Tie as tie
 
 returns : tie.Need-returns
 unfolding firstMet conditions
