@@ -33,7 +33,7 @@ use Rattle.machine_rules.specs.Offers.{oldestIn, offeredIn}
 use Rattle.machine_rules.proofs.Table.{rows, in-rows}
 use Rattle.machine_state.specs.State.{State}
 use Rattle.machine_state.specs.Packed.{memoryAt, standsAt, phaseAt, issuedAt, drainedAt, countsIn, stateIn, columnsIn}
-use Rattle.machine_store.specs.Stores.{oneMoreDrained, advanced, Countable, Onward}
+use Rattle.machine_store.specs.Stores.{oneMoreDrained, advanced, MayCount, Onward}
 use Rattle.machine_take.specs.Takes.{names}
 use Rattle.machine_drain.specs.Drains.{MayDrain, Drains}
 use Rattle.machine.specs.Arrays.{isDry, oldestOf, nextOf, offeredOf}
@@ -279,7 +279,7 @@ module _ (codes constants cells locations values marks : List ℕ) (ready : Read
       another n z = other g m ready e proper i here own-low (sym its) n (λ w. z (w ∙ sym kind-is))
 
       module _ (n : ¬ (e .kind ≡ 3)) (next : e .kind ≡ stepKind (i .kind) (getD marks (phaseAt p) 0)) where
-        countable : Countable marks
+        countable : MayCount marks
         unfolding stateIn
         countable = countable-at g m ready e proper i here own-low (sym its) n (next ∙ kind-is)
 

@@ -19,7 +19,7 @@ use Rattle.model.specs.Step.{same, firstMet}
 use Rattle.model.specs.Code.{taken, judged}
 use Rattle.machine_rules.specs.Guards.{blockedIn}
 use Rattle.machine_state.specs.State.{State}
-use Rattle.machine_store.specs.Stores.{Issuable, Countable}
+use Rattle.machine_store.specs.Stores.{Issuable, MayCount}
 use Rattle.machine_take.specs.Takes.{LogOf}
 use Rattle.machine.specs.Arrays.{isDry, nextOf}
 use Rattle.machine.specs.Stores.{carriedOut}
@@ -30,7 +30,7 @@ pub record MayTake (locations values marks : List ℕ) (i : Record) (e : Event) 
   pub own : i .processor ≡ e .processor
   pub log : LogOf locations values marks (e .processor)
   pub hasMarks : 1 < length marks
-  pub count : Countable marks
+  pub count : MayCount marks
   pub register : i .register < registersEach
   pub location : i .location < sizes.locations
   pub write : e .kind ≡ 2 → Issuable marks (e .processor)

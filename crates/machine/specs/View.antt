@@ -38,6 +38,6 @@ unfoldable pub machineOf : Columns → State → model.Machine
 unfolding processorOf holderOf
 machineOf g m = record { processors = four (processorOf g m); memory = m .memory; holder = holderOf (m .holder) }
 
--- and how far the run has come that led to it
+-- and with what was counted on the way to it
 abbrev pub reachedOf : Columns → State → Reached
 reachedOf g m = reached (machineOf g m) (m .own)

@@ -14,7 +14,7 @@ use Rattle.model.specs.Machine.{WaitingWrite}
 use Rattle.model.specs.Step.{originIn, seenIn}
 use Rattle.machine_rules.specs.Offers.{waitingFrom}
 use Rattle.machine_state.specs.Packed.{memoryAt, issuedAt, drainedAt}
-use Rattle.machine_store.specs.Stores.{received, counted, Countable}
+use Rattle.machine_store.specs.Stores.{received, counted, MayCount}
 use Rattle.machine_take.specs.Takes.{names, cellOf, attempted, LogOf}
 
 -- what waits for processor p
@@ -31,6 +31,6 @@ pub record Reads (cells locations values marks : List ℕ) (i e : Record) (r : A
 
 pub record MayRead (locations values marks : List ℕ) (i e : Record) : Type 0 where
   pub log : LogOf locations values marks (e .processor)
-  pub count : Countable marks
+  pub count : MayCount marks
   pub register : i .register < registersEach
   pub location : i .location < sizes.locations

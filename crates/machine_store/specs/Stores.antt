@@ -49,8 +49,8 @@ pub record Issuable (marks : List ℕ) (p : ℕ) : Type 0 where
   pub few : getD marks (issuedAt p) 0 < instructionsEach
 
 -- there is a read to count
-abbrev pub Countable : List ℕ → Type 0
-Countable marks = getD marks ownAt 0 < longestTrace
+abbrev pub MayCount : List ℕ → Type 0
+MayCount marks = getD marks ownAt 0 < longestTrace
 
 -- there is a write to drain
 pub record Drainable (marks : List ℕ) (p x : ℕ) : Type 0 where

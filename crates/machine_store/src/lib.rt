@@ -3,7 +3,7 @@ ghost use mathlib.Core.Path.{_≡_};
 ghost use Prim.Native.Nat.{_<_};
 ghost use lib.ListN.{set};
 ghost use Rattle.machine_state.specs.Packed.{memoryAt};
-ghost use Rattle.machine_store.specs.Stores.{received, counted, exchanged, nextPlace, oneMoreIssued, oneMoreDrained, advanced, Issuable, Countable, Drainable, Onward};
+ghost use Rattle.machine_store.specs.Stores.{received, counted, exchanged, nextPlace, oneMoreIssued, oneMoreDrained, advanced, Issuable, MayCount, Drainable, Onward};
 use machine_rules::program;
 use machine_state::state::Machine;
 use model::kind::Role;
@@ -25,7 +25,7 @@ pub fn receive(cells: &mut [u32; Machine::CELLS], kind: u8, p: usize, c: usize, 
 
 // A read that the own buffer served is counted.
 pub fn count(marks: &mut [usize; Machine::MARKS], from: Origin)
-    requires { ⌜ Countable (now marks) ⌝ }
+    requires { ⌜ MayCount (now marks) ⌝ }
     ensures { λ _. ⌜ now (marks .exit) ≡ counted (now (marks .entry)) from ⌝ }
 {
     match from {

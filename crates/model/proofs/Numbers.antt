@@ -14,7 +14,7 @@ use Rattle.model.specs.Rules.{Event, ownReads}
 use Rattle.model.specs.Tests.{passed, refused, inOrder}
 use Rattle.model.specs.Reading.{readRecord, reading}
 use Rattle.model.specs.Calls.{Reached, reached, takeRecord, following, tried}
-use Rattle.model.specs.Numbers.{Turns, Follows, Stops, tableLength, tableRecord, traceLength, traceRecord}
+use Rattle.model.specs.Numbers.{Turns, Follows, ownOf, Stops, tableLength, tableRecord, traceLength, traceRecord}
 use Rattle.model.proofs.Tests.{and-then-passed, and-then-refused, then-passed, then-refused}
 use Rattle.model.proofs.InOrder.{Earliest, in-order-at, file-whole, file-not-whole, file-passed, file-refused}
 use Rattle.model.proofs.Reading.{read-refused, read-refuses, reads, reads-back, readable-exactly}
@@ -27,10 +27,6 @@ use Rattle.model.proofs.Following.{take-refused, take-turns, runs, runs
 -- where a run of this table begins
 abbrev begun : List Entry → Reached
 begun entries = reached (start entries) 0
-
--- how many reads own buffers served in the run of these events
-abbrev pub ownOf : {table trace : List ℕ} {es : List Event} {s : Machine} → Follows table trace es s → ℕ
-ownOf {es = es} {s} f = ownReads (start (f .entries)) es s (f .run)
 
 -- the events of a run pass
 follows-passes : (table trace : List ℕ) (es : List Event) (s : Machine) (f : Follows table trace es s) → inOrder takeRecord 0 (begun (f .entries)) es ≡ passed (reached s (ownOf f))

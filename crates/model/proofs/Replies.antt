@@ -16,11 +16,11 @@ use Rattle.model.specs.Finish.{isFinished, completion}
 use Rattle.model.specs.Tests.{Tested, passed, refused}
 use Rattle.model.specs.Reply.{Reply, done, refuse, words}
 use Rattle.model.specs.Calls.{Reached, reached, written, tried, replied, reported, checkedAt, checked, completedAt, completed}
-use Rattle.model.specs.Numbers.{Follows, Stops, Checks, Finishes}
+use Rattle.model.specs.Numbers.{Follows, ownOf, Stops, Checks, Finishes}
 use Rattle.model.proofs.Left.{finished-test}
 use Rattle.model.proofs.Finish.{completion-runs}
 use Rattle.model.proofs.Completion.{one-completion}
-use Rattle.model.proofs.Numbers.{ownOf, tried-ends, follows-tried, tried-stops}
+use Rattle.model.proofs.Numbers.{tried-ends, follows-tried, tried-stops}
 
 -- ---- the room is large enough, or not
 

@@ -15,11 +15,10 @@ use Rattle.model.specs.Kinds.{Entry}
 use Rattle.model.specs.Table.{start}
 use Rattle.model.specs.Reply.{refuse, words}
 use Rattle.model.specs.Calls.{reached, written, reported, checkedAt, checked, completedAt, completed}
-use Rattle.model.specs.Numbers.{Follows}
+use Rattle.model.specs.Numbers.{Follows, ownOf}
 use Rattle.model.specs.Promises.{Lent}
 use Rattle.model.proofs.Words.{words-length, file-length}
 use Rattle.model.proofs.Finish.{completion-completes}
-use Rattle.model.proofs.Numbers.{ownOf}
 use Rattle.model.proofs.Replies.{replied-is, written-is}
 
 refused-lent : (n i : ℕ) (room : List ℕ) → Lent room (refuse n i room)

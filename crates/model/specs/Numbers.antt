@@ -31,6 +31,10 @@ pub record Follows (table trace : List ℕ) (events : List Event) (s : Machine) 
   pub whole : Whole trace
   pub run : Run (start entries) events s
 
+-- how many reads own buffers served in that run
+abbrev pub ownOf : {table trace : List ℕ} {events : List Event} {s : Machine} → Follows table trace events s → ℕ
+ownOf {events = events} {s} f = ownReads (start (f .entries)) events s (f .run)
+
 -- r is a record of the file, behind the records `before`
 abbrev pub Behind : List ℕ → List Record → Record → Type 0
 Behind bytes before r = (after : List Record) × (records bytes ≡ before ++ r ∷ after)
@@ -61,7 +65,7 @@ pub data Checks (table trace room : List ℕ) : Reply → Type 0 where
       → Checks table trace room (refuse 13 resultWords room)
   finished : {s : Machine}
       → (f : Follows table trace (records trace) s) → Finished s → resultWords ≤ length room
-      → Checks table trace room (done (length (records trace)) (words s (ownReads (start (f .entries)) (records trace) s (f .run)) ++ drop resultWords room))
+      → Checks table trace room (done (length (records trace)) (words s (ownOf f) ++ drop resultWords room))
 
 -- finishing
 pub data Finishes (table trace room : List ℕ) : Reply → Type 0 where

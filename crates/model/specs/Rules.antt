@@ -156,13 +156,13 @@ abbrev pub Run : Machine → List Event → Machine → Type 0
 Run s [] u = s ≡ u
 Run s (e ∷ es) u = (t : Machine) × Allowed s e t × Run t es u
 
--- ---- its reads that own buffers served
+-- ---- how many reads of a run own buffers served (document 02, order 3)
 
 abbrev pub served : Origin → ℕ
 served Memory = 0
 served (Waiting position) = 1
 
--- of one step
+-- of one step: 1 if it is a read whose value comes from a waiting write, and otherwise 0
 unfoldable pub ownRead : {s : Machine} {e : Event} {t : Machine} → Allowed s e t → ℕ
 ownRead (Read {from = from} c h sees) = served from
 ownRead (Write c h) = 0
@@ -172,7 +172,7 @@ ownRead (Lock c h f) = 0
 ownRead (Unlock c h f) = 0
 ownRead (Local c h) = 0
 
--- of all
+-- of all steps of a run
 unfoldable pub ownReads : (s : Machine) (events : List Event) (u : Machine) → Run s events u → ℕ
 unfolding ownRead
 ownReads s [] u run = 0

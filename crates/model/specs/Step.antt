@@ -34,7 +34,7 @@ same e f =
 
 -- ---- the lookup
 
--- behind one older write, which is to x or not, positions are one more; with none to x, it is what is read
+-- with one older write, to x or not, before the writes that gave an origin: their positions are one more, and it is read where none of them is
 unfoldable pub behind : Bool → Origin → Origin
 behind mine Memory = cond mine (Waiting 0) Memory
 behind mine (Waiting i) = Waiting (suc i)
@@ -50,7 +50,7 @@ unfoldable pub valueFrom : Origin → List WaitingWrite → ℕ → ℕ
 valueFrom Memory waiting m = m
 valueFrom (Waiting i) waiting m = getD waiting i (writeOf 0 0) .value
 
--- so this is read
+-- what is read, so
 unfoldable pub seenIn : List WaitingWrite → ℕ → ℕ → ℕ
 unfolding originIn valueFrom
 seenIn waiting x m = valueFrom (originIn waiting x) waiting m
@@ -64,7 +64,7 @@ unfoldable pub seen : Machine → ℕ → ℕ → ℕ
 unfolding seenIn processor cell
 seen s p x = seenIn (processor s p .waiting) x (cell s x)
 
--- whether the event's own buffer serves it, as a number
+-- 1 if e is a read that the own buffer serves, and otherwise 0
 unfoldable pub servedOwn : Machine → Event → ℕ
 unfolding originOf
 servedOwn s e = cond (eqb (e .kind) 1) (served (originOf s (e .processor) (e .location))) 0
