@@ -55,10 +55,10 @@ module _ (s : Machine) (e : Event) (f : Condition → Bool) where
       go true t j ih = subst (λ (a : Condition). FirstMet s e a (b ∷ cs)) (some_inj j) (here (d.0.0 t))
       go false t j ih = later (failed (f b) d.0 t) (ih j)
 
-  first_found : (cs : List Condition) → All Decides cs → (c : Condition) → FirstMet s e c cs → first_met f cs ≡ some c
+  first_found : (c : Condition) (cs : List Condition) → All Decides cs → FirstMet s e c cs → first_met f cs ≡ some c
   unfolding first_met
-  first_found cs d c (here m) = rw (d.0.1 m)
-  first_found cs d c (later {d = b} n l) = rw (fails (f b) d.0 n) (first_found _ d.1 c l)
+  first_found c cs d (here m) = rw (d.0.1 m)
+  first_found c cs d (later {d = b} n l) = rw (fails (f b) d.0 n) (first_found c _ d.1 l)
 
 -- ---- each condition
 
@@ -176,7 +176,7 @@ module _ (s : Machine) (e : Event) where
   none-clear k = (λ h. clear_of s e (met s e) (conditions e.kind) (tells k) (unmet (met s e) (conditions e.kind) h), clear_none s e (met s e) (conditions e.kind) (tells k))
 
   pub some_first : Known step_uses e → (c : Condition) → (first_met (met s e) (conditions e.kind) ≡ some c) ↔ FirstMet s e c (conditions e.kind)
-  some_first k c = (first-sound s e (met s e) (conditions e.kind) (tells k) c, first_found s e (met s e) (conditions e.kind) (tells k) c)
+  some_first k c = (first-sound s e (met s e) (conditions e.kind) (tells k) c, first_found s e (met s e) c (conditions e.kind) (tells k))
 
   -- location and value of a read, a write or a drain that is allowed are the right ones
   pub is_right : e.kind < 4 → ¬ Met NotRight s e → Right s e

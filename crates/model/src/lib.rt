@@ -1,4 +1,6 @@
 // The plain types that the definitions (specs/) and the code share, and document 01's limits, each beside the type it limits.
+#![tactic(auto)]
+
 pub mod answer;
 pub mod kind;
 pub mod number;
