@@ -1,4 +1,6 @@
 // The calls for C, C++ and Rust, as include/ambercell.h declares them: a slice is a pointer and a length there.
+#![tactic(auto)]
+
 ghost use Rattle.std.specs.Prelude.{◌≡◌};
 ghost use Rattle.model.specs.Calls.{checked, completed};
 ghost use Rattle.litmus_model.specs.Call.{imported};

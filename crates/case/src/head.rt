@@ -48,8 +48,8 @@ impl Head {
 }
 
 pub fn head_of(bytes: &[u8]) -> Head
-    requires* { do ⌜ length bytes.now ≡ (← ⟦Head::BYTES⟧) ⌝ }
-    ensures* result_value { do ⌜ result ≡ head_in (← (⟦Head::LITMUS⟧).entry) (← (⟦MOST⟧).entry) bytes.now ⌝ }
+    requires { length bytes.now ≡ Head.BYTES }
+    ensures result_value { result ≡ head_in Head.LITMUS MOST bytes.now }
     ensures fits { Fits MOST result }
 {
     let call = value_at(bytes, Head::CALL);

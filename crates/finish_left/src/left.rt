@@ -46,7 +46,7 @@ pub fn left(codes: &[u8; Program::CODES], marks: &[usize; Machine::MARKS]) -> us
         (issued_in marks.now) (drained_in marks.now) }
     ensures value { result ≡ left_in (kinds_in codes.now) (counts_in codes.now) (at_in marks.now)
         (phase_in marks.now) (issued_in marks.now) (drained_in marks.now) }
-    ensures* result_bound { do ⌜ result ≤ (← (⟦Program::PROCESSORS⟧).entry) * (heaviest + (← (⟦Program::INSTRUCTIONS⟧).entry)) ⌝ }
+    ensures result_bound { result ≤ Program.PROCESSORS * (heaviest + Program.INSTRUCTIONS) }
 {
     let mut k = 0;
     let mut p = 0;

@@ -12,7 +12,7 @@ use model::record::Record;
 use model::table::{Cells, Program};
 
 fn event(kind: u8, p: usize, x: u8, v: u32) -> Record
-    requires* { do ⌜ p < (← ⟦Program::PROCESSORS⟧) ⌝ }
+    requires { p < Program.PROCESSORS }
     ensures { result ≡ event_as kind p x v }
 {
     Record {

@@ -1,4 +1,6 @@
 // A litmus text, read from its head to its end: its records, or the first fault.
+#![tactic(auto)]
+
 pub mod form;
 pub mod forms;
 pub mod head;

@@ -42,7 +42,7 @@ const STEPS: [[u8; Role::PHASES]; Role::KINDS] = [
 const COUNTS: [u16; Role::KINDS] = [0, 0, 0, 1, 1, 1, 1, 1, 2, 4, 2, 4];
 
 pub fn step_kind(kind: u8, phase: usize) -> u8
-    requires* { do ⌜ (kind < (← ⟦Role::KINDS⟧)) × (phase < (← ⟦Role::PHASES⟧)) ⌝ }
+    requires { (kind < Role.KINDS) × (phase < Role.PHASES) }
     ensures { result ≡ step_kind kind phase }
 {
     let k = kind as usize;
@@ -50,7 +50,7 @@ pub fn step_kind(kind: u8, phase: usize) -> u8
 }
 
 pub fn step_count(kind: u8) -> usize
-    requires* { do ⌜ kind < (← ⟦Role::KINDS⟧) ⌝ }
+    requires { kind < Role.KINDS }
     ensures { result ≡ step_count kind }
 {
     let k = kind as usize;

@@ -9,7 +9,7 @@ use model::table::Program;
 
 // Processor p is at the end of its program, and all writes that it issued are drained.
 pub fn is_done(codes: &[u8; Program::CODES], marks: &[usize; Machine::MARKS], p: usize) -> bool
-    requires* { do ⌜ p < (← ⟦Program::PROCESSORS⟧) ⌝ }
+    requires { p < Program.PROCESSORS }
     ensures { result ≡ done_at (at_in marks.now) (counts_in codes.now)
         (drained_in marks.now) (issued_in marks.now) p }
 {

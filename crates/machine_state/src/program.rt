@@ -14,7 +14,7 @@ fn wide(byte: u8) -> usize
 
 // How many instructions processor p has.
 pub fn count(codes: &[u8; Program::CODES], p: usize) -> usize
-    requires* { do ⌜ p < (← ⟦Program::PROCESSORS⟧) ⌝ }
+    requires { p < Program.PROCESSORS }
     ensures { result ≡ get_or (counts_in codes.now) p 0 }
 {
     wide(codes[Program::COUNTS + p])
@@ -22,7 +22,7 @@ pub fn count(codes: &[u8; Program::CODES], p: usize) -> usize
 
 // The kind of its instruction a.
 pub fn kind(codes: &[u8; Program::CODES], p: usize, a: usize) -> u8
-    requires* { do ⌜ (p < (← ⟦Program::PROCESSORS⟧)) × (a < (← ⟦Program::INSTRUCTIONS⟧)) ⌝ }
+    requires { (p < Program.PROCESSORS) × (a < Program.INSTRUCTIONS) }
     ensures { result ≡ get_or (kinds_in codes.now) (place_at p a) 0 }
 {
     codes[Program::INSTRUCTIONS * p + a]
@@ -35,7 +35,7 @@ pub fn instruction<'a>(
     p: usize,
     a: usize,
 ) -> Record
-    requires* { do ⌜ (p < (← ⟦Program::PROCESSORS⟧)) × (a < (← ⟦Program::INSTRUCTIONS⟧)) ⌝ }
+    requires { (p < Program.PROCESSORS) × (a < Program.INSTRUCTIONS) }
     ensures { result ≡ instruction_at (columns_in codes.now constants.now) p a }
 {
     let place = Program::INSTRUCTIONS * p + a;

@@ -1,4 +1,6 @@
 // Single stores. `kind` is that of the instruction that processor p stands at, c the place of its register among the cells.
+#![tactic(auto)]
+
 ghost use Rattle.std.specs.Prelude.{◌≡◌, ◌<◌, set};
 ghost use Rattle.machine_state.specs.Packed.{memory_at};
 ghost use Rattle.machine_store.specs.Stores.{received, counted, exchanged, next_place, one_more_issued, one_more_drained, advanced, Issuable, MayCount, Drainable, Onward};
@@ -11,7 +13,7 @@ use model::table::{Cells, Program};
 
 // A load's read goes into the register, an exchange's is kept aside.
 pub fn receive(cells: &mut [u32; Machine::CELLS], kind: u8, p: usize, c: usize, v: u32)
-    requires* { do ⌜ (p < (← ⟦Program::PROCESSORS⟧)) × (c < (← ⟦Cells::ALL_REGISTERS⟧)) ⌝ }
+    requires { (p < Program.PROCESSORS) × (c < Cells.ALL_REGISTERS) }
     ensures { cells.new ≡ received cells.old kind p c v }
 {
     match role_of(kind) {
@@ -33,7 +35,7 @@ pub fn count(marks: &mut [usize; Machine::MARKS], from: Origin)
 
 // With an exchange's write the register takes the kept value.
 pub fn exchange(cells: &mut [u32; Machine::CELLS], kind: u8, p: usize, c: usize)
-    requires* { do ⌜ (p < (← ⟦Program::PROCESSORS⟧)) × (c < (← ⟦Cells::ALL_REGISTERS⟧)) ⌝ }
+    requires { (p < Program.PROCESSORS) × (c < Cells.ALL_REGISTERS) }
     ensures { cells.new ≡ exchanged cells.old kind p c }
 {
     match role_of(kind) {

@@ -12,14 +12,14 @@ use model::table::Program;
 
 // Nothing of processor p waits.
 fn is_empty(marks: &[usize; Machine::MARKS], p: usize) -> bool
-    requires* { do ⌜ p < (← ⟦Program::PROCESSORS⟧) ⌝ }
+    requires { p < Program.PROCESSORS }
     ensures { result ≡ empty_in marks.now p }
 {
     marks[Machine::DRAINED + p] == marks[Machine::ISSUED + p]
 }
 
 pub fn fence(marks: &[usize; Machine::MARKS], p: usize) -> Attempt
-    requires* { do ⌜ p < (← ⟦Program::PROCESSORS⟧) ⌝ }
+    requires { p < Program.PROCESSORS }
     ensures { result ≡ attempted FENCE marks.now p true }
 {
     if is_empty(marks, p) {
@@ -29,7 +29,7 @@ pub fn fence(marks: &[usize; Machine::MARKS], p: usize) -> Attempt
 }
 
 pub fn lock(marks: &mut [usize; Machine::MARKS], p: usize) -> Attempt
-    requires* { do ⌜ p < (← ⟦Program::PROCESSORS⟧) ⌝ }
+    requires { p < Program.PROCESSORS }
     ensures { Holds LOCK p marks.old p result marks.new }
 {
     if guards::blocked(marks[Machine::HOLDER], p) {
@@ -44,7 +44,7 @@ pub fn lock(marks: &mut [usize; Machine::MARKS], p: usize) -> Attempt
 
 // Who comes to an unlock holds the lock.
 pub fn unlock(marks: &mut [usize; Machine::MARKS], p: usize) -> Attempt
-    requires* { do ⌜ p < (← ⟦Program::PROCESSORS⟧) ⌝ }
+    requires { p < Program.PROCESSORS }
     ensures { Holds UNLOCK nobody marks.old p result marks.new }
 {
     if is_empty(marks, p) {

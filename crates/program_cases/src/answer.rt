@@ -20,7 +20,7 @@ fn check(table: &[u8], trace: &[u8], room: &mut [u8], words: &mut [u32]) -> CAns
 
 pub fn answer(call: u32, table: &[u8], trace: &[u8], room: &mut [u8], words: &mut [u32]) -> CAnswer
     requires { length words.old * WORD ≤ length room.old }
-    ensures* { do ⌜ Answers (← (⟦Head::FINISH⟧).entry) (← (⟦Head::LITMUS⟧).entry) call table.now trace.now room.old words.old result room.new words.new ⌝ }
+    ensures { Answers Head.FINISH Head.LITMUS call table.now trace.now room.old words.old result room.new words.new }
 {
     if call == Head::FINISH {
         return ambercell_finish(table, trace, room);

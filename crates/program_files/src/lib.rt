@@ -1,4 +1,6 @@
 // Whole files of the current folder, and what a program says on standard output.
+#![tactic(auto)]
+
 pub mod both;
 pub mod read;
 pub mod say;

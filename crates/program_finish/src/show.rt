@@ -24,8 +24,8 @@ pub struct Shown {
 
 // Finishes the run, and puts the text of the reply at the start of out.
 pub fn put_finishing(out: &mut [u8], table: &[u8], trace: &[u8], room: &mut [u8]) -> Shown
-    requires* do_in_bounds { do ⌜ (← ⟦added::MOST⟧) ≤ length out.old ⌝ }
-    requires* room_bound { do ⌜ length room.old ≤ (← ⟦added::ROOM⟧) ⌝ }
+    requires do_in_bounds { added.MOST ≤ length out.old }
+    requires room_bound { length room.old ≤ added.ROOM }
     ensures room_after { reply_of result.answer room.new ≡ completed table.now trace.now room.old }
     ensures adds { Adds out.old 0 (shown (completed table.now trace.now room.old)) out.new result.length }
     ensures prefix_len { IsPrefixLen result.length out.new }

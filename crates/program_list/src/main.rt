@@ -1,4 +1,6 @@
 // The listing program, on table.rec and trace.rec of the current folder: reads them, checks, and writes the reply as text.
+#![tactic(auto)]
+
 mod show;
 
 fn main() {

@@ -14,9 +14,9 @@ use text::reply::put_reply;
 
 // Checks, and puts the listing at the start of out. Answers its length.
 pub fn put_listing(out: &mut [u8], table: &[u8], trace: &[u8]) -> usize
-    requires* { do ⌜ (← ⟦reply::MOST⟧) ≤ length out.old ⌝ }
+    requires { reply.MOST ≤ length out.old }
     ensures prefix_len { IsPrefixLen result out.new }
-    ensures* fact { do ⌜ Adds out.old 0 (listed (checked table.now trace.now (replicate (← (⟦Answer::WORDS⟧).entry) 0))) out.new result ⌝ }
+    ensures fact { Adds out.old 0 (listed (checked table.now trace.now (replicate Answer.WORDS 0))) out.new result }
 {
     let mut room = [0u32; Answer::WORDS];
     let answer = checker::check::check(table, trace, &mut room);

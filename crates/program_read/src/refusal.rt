@@ -49,7 +49,7 @@ fn put_place(out: &mut [u8], why: Refusal, text: &[u8], n: usize, place: usize) 
     requires in_bounds { MOST ≤ length out.old }
     requires n_in_bounds { n ≤ length text.now }
     requires place_le_n { place ≤ n }
-    ensures* { do ⌜ result ≤ (← (⟦fault::MOST⟧).entry) ⌝ }
+    ensures { result ≤ fault.MOST }
 {
     put_fault(out, number(why), &text[..n], place)
 }

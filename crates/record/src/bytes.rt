@@ -37,7 +37,7 @@ pub fn value_at(bytes: &[u8], at: usize) -> u32
 
 // Record i of a file.
 pub fn read_record(bytes: &[u8], i: usize) -> Record
-    requires* { do ⌜ i * (← ⟦Record::BYTES⟧) + (← ⟦Record::BYTES⟧) ≤ length bytes.now ⌝ }
+    requires { i * Record.BYTES + Record.BYTES ≤ length bytes.now }
     ensures { result ≡ record_at bytes.now i }
 {
     let at = i * Record::BYTES;
@@ -69,7 +69,7 @@ pub fn put_value(bytes: &mut [u8], at: usize, v: u32)
 
 // Record i of the room becomes r.
 pub fn write_record(room: &mut [u8], i: usize, r: Record)
-    requires* { do ⌜ i * (← ⟦Record::BYTES⟧) + (← ⟦Record::BYTES⟧) ≤ length room.old ⌝ }
+    requires { i * Record.BYTES + Record.BYTES ≤ length room.old }
     ensures { room.new ≡ with_record room.old i r }
 {
     let at = i * Record::BYTES;

@@ -7,7 +7,7 @@ use model::table::{Cells, Program};
 
 // A processor, register or location is used and too large.
 pub fn too_large(used: [bool; Record::FIELDS], r: Record) -> bool
-    ensures* { do ⌜ result ≡ too_large_by (← (⟦Program::PROCESSORS⟧).entry) (← (⟦Cells::REGISTERS⟧).entry) (← (⟦Cells::LOCATIONS⟧).entry) used r ⌝ }
+    ensures { result ≡ too_large_by Program.PROCESSORS Cells.REGISTERS Cells.LOCATIONS used r }
 {
     let p = r.processor as usize;
     let q = r.register as usize;

@@ -32,8 +32,8 @@ pub fn unpacked(w: u64) -> Record
 
 // The room begins with these records; what stands behind is kept.
 pub fn write_records(room: &mut [u8], words: &[u64])
-    requires* { do ⌜ length words.now * (← ⟦Record::BYTES⟧) ≤ length room.old ⌝ }
-    ensures* { do ⌜ room.new ≡ file_of (records_in words.now) ++ drop (length words.now * (← (⟦Record::BYTES⟧).entry)) room.old ⌝ }
+    requires { length words.now * Record.BYTES ≤ length room.old }
+    ensures { room.new ≡ file_of (records_in words.now) ++ drop (length words.now * Record.BYTES) room.old }
 {
     let mut i: usize = 0;
     while i < words.len() {

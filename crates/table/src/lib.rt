@@ -1,3 +1,5 @@
 // Reading a table (document 01, numbers 1 to 7).
+#![tactic(auto)]
+
 pub mod in_place;
 mod read;

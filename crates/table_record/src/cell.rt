@@ -15,7 +15,7 @@ pub fn give_cell<'a>(
     c: usize,
     value: u32,
 ) -> Verdict
-    requires* { do ⌜ c < (← ⟦Cells::ALL⟧) ⌝ }
+    requires { c < Cells.ALL }
     ensures { GivesCell cells.old given.old begun i c value result cells.new given.new }
 {
     if begun {

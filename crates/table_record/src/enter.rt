@@ -32,9 +32,7 @@ fn enter_instruction<'a>(
     r: Record,
 ) -> Verdict
     requires { Formed r }
-    ensures* { do
-      ⌜ EntersInstruction (← (⟦Program::INSTRUCTIONS⟧).entry) (columns_in codes.old constants.old) begun.old i r
-          result (columns_in codes.new constants.new) begun.new ⌝ }
+    ensures { EntersInstruction Program.INSTRUCTIONS (columns_in codes.old constants.old) begun.old i r result (columns_in codes.new constants.new) begun.new }
 {
     let p = r.processor as usize;
     let n = program::count(codes, p);

@@ -47,8 +47,8 @@ pub fn put_finished(out: &mut [u8], steps: usize) -> usize
 
 fn put_processor(out: &mut [u8], at: usize, room: &[u32], p: usize) -> usize
     requires at_in_bounds { at + PROCESSOR ≤ length out.old }
-    requires* room_value { do ⌜ length room.now ≡ (← ⟦Answer::WORDS⟧) ⌝ }
-    requires* p_bound { do ⌜ p < (← ⟦Program::PROCESSORS⟧) ⌝ }
+    requires room_value { length room.now ≡ Answer.WORDS }
+    requires p_bound { p < Program.PROCESSORS }
     ensures adds { Adds out.old at (processor_line room.now p) out.new result }
     ensures upper_bound { result ≤ at + PROCESSOR }
 {
@@ -62,8 +62,8 @@ fn put_processor(out: &mut [u8], at: usize, room: &[u32], p: usize) -> usize
 
 pub fn put_processors(out: &mut [u8], at: usize, room: &[u32]) -> usize
     requires at_in_bounds { at + PROCESSORS ≤ length out.old }
-    requires* room_value { do ⌜ length room.now ≡ (← ⟦Answer::WORDS⟧) ⌝ }
-    ensures* fact { do ⌜ Adds out.old at (processor_lines room.now (← (⟦Program::PROCESSORS⟧).entry)) out.new result ⌝ }
+    requires room_value { length room.now ≡ Answer.WORDS }
+    ensures fact { Adds out.old at (processor_lines room.now Program.PROCESSORS) out.new result }
     ensures upper_bound { result ≤ at + PROCESSORS }
 {
     let mut next = at;
@@ -77,7 +77,7 @@ pub fn put_processors(out: &mut [u8], at: usize, room: &[u32]) -> usize
 
 pub fn put_memory(out: &mut [u8], at: usize, room: &[u32]) -> usize
     requires at_in_bounds { at + MEMORY ≤ length out.old }
-    requires* room_value { do ⌜ length room.now ≡ (← ⟦Answer::WORDS⟧) ⌝ }
+    requires room_value { length room.now ≡ Answer.WORDS }
     ensures adds { Adds out.old at (memory_line room.now) out.new result }
     ensures upper_bound { result ≤ at + MEMORY }
 {
@@ -90,7 +90,7 @@ pub fn put_memory(out: &mut [u8], at: usize, room: &[u32]) -> usize
 
 pub fn put_own(out: &mut [u8], at: usize, room: &[u32]) -> usize
     requires at_in_bounds { at + OWN ≤ length out.old }
-    requires* room_value { do ⌜ length room.now ≡ (← ⟦Answer::WORDS⟧) ⌝ }
+    requires room_value { length room.now ≡ Answer.WORDS }
     ensures adds { Adds out.old at (own_line room.now) out.new result }
     ensures upper_bound { result ≤ at + OWN }
 {

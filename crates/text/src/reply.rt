@@ -16,7 +16,7 @@ pub const MOST: usize = FIRST + PROCESSORS + MEMORY + OWN;
 // The text of an answer and of the room after it, at the start of out. Answers its length.
 pub fn put_reply(out: &mut [u8], answer: Answer, room: &[u32]) -> usize
     requires in_bounds { MOST ≤ length out.old }
-    requires* room_value { do ⌜ length room.now ≡ (← ⟦Answer::WORDS⟧) ⌝ }
+    requires room_value { length room.now ≡ Answer.WORDS }
     ensures adds { Adds out.old 0 (listed (reply_of answer room.now)) out.new result }
     ensures prefix_len { IsPrefixLen result out.new }
 {

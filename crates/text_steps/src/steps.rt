@@ -85,7 +85,7 @@ fn put_step(out: &mut [u8], at: usize, e: Record) -> usize
 // The first n records of these bytes, at the start of out.
 pub fn put_steps(out: &mut [u8], bytes: &[u8], n: usize) -> usize
     requires n_in_bounds { n * LINE ≤ length out.old }
-    requires* n_in_bounds_2 { do ⌜ n * (← ⟦Record::BYTES⟧) ≤ length bytes.now ⌝ }
+    requires n_in_bounds_2 { n * Record.BYTES ≤ length bytes.now }
     ensures adds { Adds out.old 0 (step_lines (records_from bytes.now 0 n)) out.new result }
     ensures upper_bound { result ≤ length out.old }
 {

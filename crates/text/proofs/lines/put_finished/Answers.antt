@@ -1,0 +1,10 @@
+use Rattle.text.specs.Reply.{finished_line}
+use Rattle.text.proofs.Adding.{then}
+use borrow.Author.Rules.{rules}
+use Rattle.text.proofs.lines.put_finished.Goals as goal
+
+-- BY-HAND: 6 answers for 5 goals
+pub returns : goal.returns
+unfolding finished_line
+returns c =
+    (then (then c.put_word-at.ensures.0 c.put_number-at.ensures.0) c.put_byte.ensures.0, search rules)

@@ -1,0 +1,9 @@
+use Rattle.text.specs.Reply.{memory_line}
+use Rattle.text.proofs.Adding.{then}
+use borrow.Author.Rules.{rules}
+use Rattle.text.proofs.lines.put_memory.Goals as goal
+
+pub returns : goal.returns
+unfolding memory_line
+returns c =
+    (then (then c.put_byte-at.ensures.0 c.put_numbers-at.ensures.0) c.put_byte.ensures.0, search rules)

@@ -1,0 +1,14 @@
+use mir.Facts.{Fits-widen}
+use Rattle.text.specs.Reply.{own_line}
+use Rattle.text.proofs.Adding.{then}
+use borrow.Author.Rules.{rules}
+use Rattle.text.proofs.lines.put_own.Goals as goal
+
+-- BY-HAND: 8 answers for 7 goals
+pub returns : goal.returns
+unfolding own_line
+returns c =
+    (then (then c.put_word-at.ensures.0 c.put_number-at.ensures.0) c.put_byte.ensures.0, search rules)
+
+pub overflow_cast-own : goal.overflow_cast-own
+overflow_cast-own c = Fits-widen tt (c.shared_slice_known-2-1.given _)

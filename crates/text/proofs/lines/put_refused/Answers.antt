@@ -1,0 +1,15 @@
+use mathlib.Core.Path.{ap}
+use Rattle.text.specs.Text.{decimal}
+use Rattle.text.specs.Reply.{refused_line}
+use Rattle.text.proofs.Adding.{then, said}
+use borrow.Author.Rules.{rules}
+use Rattle.text.proofs.lines.put_refused.Goals as goal
+
+-- BY-HAND: 10 answers for 8 goals
+pub returns : goal.returns
+unfolding refused_line
+returns c =
+    let n = said c.put_number-at.ensures.0 (ap decimal c.number.ensures) in (
+      then (then c.put_word-at.ensures.0 (then n (then c.put_word-at-2.ensures.0 c.put_number-at-2.ensures.0))) c.put_byte.ensures.0,
+      search rules,
+    )
