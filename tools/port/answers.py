@@ -15,8 +15,51 @@ ID = r"[\w'₀-₉-]+"
 PATH = re.compile(r"(?<![\w'.₀-₉-])(c|" + ID + r")((?:\.[\w'₀-₉-]+)+)")
 
 
+def clauses():
+    """Of each function, by crate::module::name, the names of its clauses: {"requires": [..], "ensures": [..]}."""
+    found = {}
+    for f in glob.glob("crates/*/src/**/*.rt", recursive=True):
+        parts = f[:-3].split("/")
+        module = [parts[1]] + [p for p in parts[3:] if p not in ("lib", "main")]
+        now = None
+        for l in open(f, encoding="utf-8"):
+            m = re.match(r"\s*(?:pub(?:\(crate\))? )?(?:extern \"C\" )?(?:unsafe )?fn (\w+)", l)
+            if m:
+                now = found.setdefault("::".join(module + [m.group(1)]), {"requires": [], "ensures": []})
+            m = re.match(r"\s+(requires|ensures)\*?(?: (\w+))? \{", l)
+            if m and now is not None:
+                now[m.group(1)].append(m.group(2))
+            if l.rstrip() == "{":
+                now = None
+    return found
+
+
+CLAUSES = clauses()
+KEPT = {"at", "open", "with", "record", "in", "as", "data", "where", "use", "module"}
+
+
+def quoted(name):
+    return f"«{name}»" if name in KEPT else name
+
+
+def labelled(fields, labels):
+    """.0, .1.0, .1.1 of several clauses, by their names."""
+    n, k = len(labels), 0
+    if n < 2 or None in labels:
+        return fields
+    while fields and fields[0] == "1" and k < n - 1:
+        k += 1
+        fields = fields[1:]
+    if k == n - 1:
+        return [labels[k]] + fields
+    if fields and fields[0] == "0":
+        return [labels[k]] + fields[1:]
+    return ["1"] * k + fields
+
+
 class Names:
-    def __init__(self, it):
+    def __init__(self, it, own):
+        self.own = CLAUSES.get(own, {"requires": [], "ensures": []})
         self.places = {p[0]: p for p in it["places"]}
         self.index = {p[0]: i for i, p in enumerate(it["places"])}
         self.arms = it["arms"]
@@ -56,8 +99,24 @@ class Names:
                     return [a[0], field] + fields[1 + len(sub) :]
         for q in self.chain(place):
             if q[2][0] == step or q[2][0].replace("-", "_") == step.replace("-", "_"):
-                return [q[2][1]] + fields[1:]
+                rest = fields[1:]
+                if q[3] in CLAUSES and rest[:1] == ["ensures"]:
+                    rest = ["ensures"] + labelled(rest[1:], CLAUSES[q[3]]["ensures"])
+                return [q[2][1]] + rest
+        if step == "requires":
+            return ["requires"] + labelled(fields[1:], self.own["requires"])
         return fields
+
+    def labels(self, need):
+        """The names of the clauses that the goal is of."""
+        if need.startswith("returns"):
+            return self.own["ensures"]
+        m = re.match(r"(\w+?)(?:-.*)?-requires", need)
+        if m:
+            of = {tuple(c["requires"]) for f, c in CLAUSES.items() if f.split("::")[-1] == m.group(1)}
+            if len(of) == 1:
+                return list(of.pop())
+        return []
 
 
 def turn_body(text, names, place, marks):
@@ -111,6 +170,47 @@ def turn_body(text, names, place, marks):
         else:
             out += m.group(0)
             pos = m.end()
+
+
+def record_of(body, labels):
+    """The tuple with which a body ends, as a record of clauses."""
+    n = len(labels)
+    text = body.rstrip()
+    if n < 2 or None in labels or not text.endswith(")"):
+        return body
+    depth = 0
+    for i in range(len(text) - 1, -1, -1):
+        depth += text[i] in ")]}"
+        depth -= text[i] in "([{"
+        if depth == 0:
+            break
+    before = text[:i].rstrip()
+    if not (before.endswith("=") or before.endswith(" in") or before.endswith("$") or before.endswith("\n")):
+        return body
+
+    def split(inside):
+        parts, cur, depth = [], "", 0
+        for ch in inside:
+            depth += ch in "([{"
+            depth -= ch in ")]}"
+            if ch == "," and depth == 0:
+                parts.append(cur)
+                cur = ""
+            else:
+                cur += ch
+        if cur.strip():
+            parts.append(cur)
+        return [p.strip() for p in parts]
+
+    parts = split(text[i + 1 : -1])
+    while len(parts) < n and parts[-1].startswith("(") and parts[-1].endswith(")"):
+        last = split(parts[-1][1:-1])
+        if len(last) < 2:
+            break
+        parts = parts[:-1] + last
+    if len(parts) != n:
+        return body
+    return text[:i] + "record { " + "; ".join(f"{quoted(l)} = {p}" for l, p in zip(labels, parts)) + " }\n"
 
 
 def items(text):
@@ -175,7 +275,7 @@ def turn(crate, f, names):
     module = f"Rattle.{crate}.proofs." + ".".join(rel)
     uses, rest = [], []
     for l in text.split("\n"):
-        (uses if l.startswith("use ") and not rest else rest).append(l)
+        (uses if l.startswith("use ") else rest).append(l)
     uses = [u for u in uses if not re.search(r"\.(Statement|Tie|Lts|Reads|Code)(\.\{statement\}| as | *$)", u) or "Statement" in u and False]
     inv, ans, marks = [], [], []
     spec = None
@@ -211,9 +311,8 @@ def turn(crate, f, names):
             # parameters
             bm = re.search(r"^" + re.escape(name) + r"((?:\s+[^\s=]+)*)\s*=", body, re.M)
             params = bm.group(1).split()
-            expect = []
-            for v, c in zip(vs, ch):
-                expect += ["l.initial." + v, "l." + v] if c else ["l." + v]
+            expect = ["l.initial." + v if c else "l." + v for v, c in zip(vs, ch)]
+            expect += ["l." + v for v, c in zip(vs, ch) if c]
             if len(params) != len(expect):
                 marks.append(f"BY-HAND: {name} has {len(params)} parameters, not {len(expect)}: {vs} {ch}")
             pre, post = body[: bm.start()], body[bm.end() :]
@@ -237,7 +336,7 @@ def turn(crate, f, names):
             new, at = names.needs[need]
             body = it.split("\n", 1)[1]
             body = re.sub(r"^" + re.escape(name) + r"(?= )", new, body, flags=re.M)
-            body = turn_body(body, names, at, marks)
+            body = record_of(turn_body(body, names, at, marks), names.labels(new))
             ans.append((comment, f"pub {new} : goal.{new}\n{body}"))
             turned[name] = new
             continue
@@ -265,7 +364,7 @@ def turn(crate, f, names):
                 if body == "search rules":
                     continue
                 new, at = names.needs[n]
-                inline.append(("", f"pub {new} : goal.{new}\n{new} c = " + turn_body(body, names, at, marks)))
+                inline.append(("", f"pub {new} : goal.{new}\n" + record_of(f"{new} c = " + turn_body(body, names, at, marks), names.labels(new))))
     write(folder, "Invariants.antt", uses, inv, f"use {module}.Given as goal", [])
     helpers = [m for m in marks]
     write(folder, "Answers.antt", uses, ans + inline, f"use {module}.Goals as goal", helpers)
@@ -312,7 +411,7 @@ def main(argv):
         if "Tie as tie" not in text or key not in data:
             print(f"{crate} {'/'.join(rel)}: left, " + ("a walk" if "Tie as tie" not in text else "no names"))
             continue
-        turn(crate, f, Names(data[key]))
+        turn(crate, f, Names(data[key], "::".join([crate] + rel)))
 
 
 main(sys.argv[1:])

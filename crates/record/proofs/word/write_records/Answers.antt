@@ -1,17 +1,12 @@
-use Rattle.record.proofs.word.write_records.Goals as goal
--- The loop's invariant: the first i records are written, and the rest is as it was.
-use mathlib.Core.Path.{◌≡◌, refl, ◌∙◌}
-use mathlib.Core.List.{◌++◌}
-use Prim.Native.Nat.{◌*◌, ◌-◌, ◌≤◌}
+use mathlib.Core.Path.{refl, ◌∙◌}
+use Prim.Native.Nat.{◌-◌}
 use borrow.Author.Rules.{rules}
-use lib.ListN.{length, take, drop}
 use Rattle.model.specs.Sizes.{record_size}
 use Rattle.model.specs.Record.{bytes_of, file_of}
 use Rattle.record.specs.Bytes.{with_record}
 use Rattle.record.specs.Words.{record_in, records_in}
 use Rattle.record.proofs.Stores.{Pieces, writes_one, writes-all}
-use Rattle.record.proofs.word.write_records.Statement.{statement}
-use Rattle.record.proofs.word.write_records.Tie as tie
+use Rattle.record.proofs.word.write_records.Goals as goal
 
 -- eight bytes for each word
 pieces : Pieces record_size (λ w. bytes_of (record_in w)) (λ ws. file_of (records_in ws))

@@ -7,4 +7,4 @@ use Rattle.text.proofs.lines.put_finished.Goals as goal
 pub returns : goal.returns
 unfolding finished_line
 returns c =
-    (then (then c.put_word-at.ensures.0 c.put_number-at.ensures.0) c.put_byte.ensures.0, search rules)
+    record { adds = then (then c.put_word-at.ensures.adds c.put_number-at.ensures.adds) c.put_byte.ensures.adds; upper_bound = search rules }

@@ -6,4 +6,4 @@ use Rattle.text.proofs.lines.put_memory.Goals as goal
 pub returns : goal.returns
 unfolding memory_line
 returns c =
-    (then (then c.put_byte-at.ensures.0 c.put_numbers-at.ensures.0) c.put_byte.ensures.0, search rules)
+    record { adds = then (then c.put_byte-at.ensures.adds c.put_numbers-at.ensures.adds) c.put_byte.ensures.adds; upper_bound = search rules }

@@ -8,7 +8,7 @@ use Rattle.text.proofs.lines.put_own.Goals as goal
 pub returns : goal.returns
 unfolding own_line
 returns c =
-    (then (then c.put_word-at.ensures.0 c.put_number-at.ensures.0) c.put_byte.ensures.0, search rules)
+    record { adds = then (then c.put_word-at.ensures.adds c.put_number-at.ensures.adds) c.put_byte.ensures.adds; upper_bound = search rules }
 
 pub overflow_cast-own : goal.overflow_cast-own
 overflow_cast-own c = Fits-widen tt (c.shared_slice_known-2-1.given _)

@@ -12,7 +12,4 @@ pub returns : goal.returns
 unfolding processor_line
 returns c =
     let four : c.args.p * 4 + 4 - c.args.p * 4 ≡ 4 = omega arith in
-    let ns = said c.put_numbers-at.ensures.0 (ap (λ (k : ℕ). spaced (take k (drop (c.args.p * 4) c.args.room.now))) four) in (
-      then (then c.put_byte-at.ensures.0 (then c.put_number-at.ensures.0 ns)) c.put_byte.ensures.0,
-      search rules,
-    )
+    let ns = said c.put_numbers-at.ensures.adds (ap (λ (k : ℕ). spaced (take k (drop (c.args.p * 4) c.args.room.now))) four) in record { adds = then (then c.put_byte-at.ensures.adds (then c.put_number-at.ensures.adds ns)) c.put_byte.ensures.adds; upper_bound = search rules }

@@ -9,7 +9,4 @@ use Rattle.text.proofs.lines.put_refused.Goals as goal
 pub returns : goal.returns
 unfolding refused_line
 returns c =
-    let n = said c.put_number-at.ensures.0 (ap decimal c.number.ensures) in (
-      then (then c.put_word-at.ensures.0 (then n (then c.put_word-at-2.ensures.0 c.put_number-at-2.ensures.0))) c.put_byte.ensures.0,
-      search rules,
-    )
+    let n = said c.put_number-at.ensures.adds (ap decimal c.number.ensures) in record { adds = then (then c.put_word-at.ensures.adds (then n (then c.put_word-at-2.ensures.adds c.put_number-at-2.ensures.adds))) c.put_byte.ensures.adds; upper_bound = search rules }

@@ -3,4 +3,4 @@ use Rattle.text.proofs.Adding.{one}
 use Rattle.text.proofs.put.put_byte.Goals as goal
 
 pub returns : goal.returns
-returns c = (one c.args.out.now c.args.at c.args.byte (search rules), search rules)
+returns c = record { adds = one c.args.out.now c.args.at c.args.byte (search rules); value = search rules }

@@ -1,15 +1,11 @@
-use Rattle.text.proofs.put.put_numbers.Goals as goal
--- The loop's invariant: the first i numbers stand behind what stood there.
-use mathlib.Core.Path.{◌≡◌, ap}
-use Prim.Native.Nat.{◌+◌, ◌*◌, ◌-◌, ◌≤◌}
+use mathlib.Core.Path.{ap}
+use Prim.Native.Nat.{◌-◌}
 use native.Mathlib.Omega.{arith}
 use borrow.Author.Rules.{rules}
-use lib.ListN.{length, take}
 use lib.Seq.{take_all}
-use Rattle.text.specs.Text.{Adds, spaced}
+use Rattle.text.specs.Text.{spaced}
 use Rattle.text.proofs.Adding.{nothing, then, said, one-more-number}
-use Rattle.text.proofs.put.put_numbers.Statement.{statement}
-use Rattle.text.proofs.put.put_numbers.Tie as tie
+use Rattle.text.proofs.put.put_numbers.Goals as goal
 
 pub loop-i-init : goal.loop-i-init
 unfolding spaced
@@ -20,13 +16,13 @@ loop-i-preserved c = (
   search rules,
   search rules,
   search rules,
-  said (then c.loop-i.invariant.3 (then c.put_byte-next.ensures.0 c.put_number-next.ensures.0))
+  said (then c.loop-i.invariant.3 (then c.put_byte-next.ensures.adds c.put_number-next.ensures.adds))
       (one-more-number c.args.numbers.now c.loop-i.i (search rules)),
 )
 
 pub returns : goal.returns
 returns c =
-    (said c.loop-i.invariant.3 (ap spaced (take_all c.loop-i.i c.args.numbers.now (search rules))), search rules)
+    record { adds = said c.loop-i.invariant.3 (ap spaced (take_all c.loop-i.i c.args.numbers.now (search rules))); upper_bound = search rules }
 
 pub overflow_cast-n : goal.overflow_cast-n
 overflow_cast-n c = omega (arith, c.shared_slice_known-in-loop-i-1.given c.loop-i.i)

@@ -1,15 +1,9 @@
-use Rattle.text.proofs.put.put_word.Goals as goal
--- The loop's invariant: the first i bytes of the word stand behind what stood there.
-use mathlib.Core.Path.{◌≡◌}
-use Prim.Native.Nat.{◌+◌, ◌-◌, ◌≤◌}
+use Prim.Native.Nat.{◌-◌}
 use native.Mathlib.Omega.{arith}
 use borrow.Author.Rules.{rules}
-use lib.ListN.{length, take}
 use lib.Seq.{take_all}
-use Rattle.text.specs.Text.{Adds}
 use Rattle.text.proofs.Adding.{nothing, then, said, placed, one-more-byte}
-use Rattle.text.proofs.put.put_word.Statement.{statement}
-use Rattle.text.proofs.put.put_word.Tie as tie
+use Rattle.text.proofs.put.put_word.Goals as goal
 
 pub loop-i-init : goal.loop-i-init
 loop-i-init c = (search rules, search rules, placed (nothing c.args.out.now c.args.at (search rules)) (omega arith))
@@ -18,9 +12,9 @@ pub loop-i-preserved : goal.loop-i-preserved
 loop-i-preserved c = (
   search rules,
   search rules,
-  placed (said (then c.loop-i.invariant.2 c.put_byte.ensures.0) (one-more-byte c.args.word.now c.loop-i.i (search rules))) (omega arith),
+  placed (said (then c.loop-i.invariant.2 c.put_byte.ensures.adds) (one-more-byte c.args.word.now c.loop-i.i (search rules))) (omega arith),
 )
 
 pub returns : goal.returns
 returns c =
-    (said c.loop-i.invariant.2 (take_all c.loop-i.i c.args.word.now (search rules)), search rules)
+    record { adds = said c.loop-i.invariant.2 (take_all c.loop-i.i c.args.word.now (search rules)); value = search rules }

@@ -11,13 +11,14 @@ use Rattle.text.proofs.reply.put_reply.Goals as goal
 pub returns-in-Done : goal.returns-in-Done
 unfolding lines_of listed
 returns-in-Done c =
-    let last = then c.put_memory-at.ensures.0 c.put_own.ensures.0 in
-    let text = then c.put_finished-at.ensures.0 (then c.put_processors-at.ensures.0 last) in
-    (said text (sym (ap (λ (a : Answer). listed (reply_of a c.args.room.now)) c.in-Done.is)), prefix_len_of_le _ _ (search rules))
+    let last = then c.put_memory-at.ensures.adds c.put_own.ensures.adds in
+    let text = then c.put_finished-at.ensures.adds (then c.put_processors-at.ensures.fact last) in
+    record { adds = said text (sym (ap (λ (a : Answer). listed (reply_of a c.args.room.now)) c.in-Done.is)); prefix_len = prefix_len_of_le _ _ (search rules) }
 
 pub returns-in-Refused : goal.returns-in-Refused
-returns-in-Refused c = (
-  said c.Put-refused.ensures.0
-      (refusal-listed c.answer-in-Refused-1.given.0.0 c.answer-in-Refused-1.given.0.1.0 c.args.room.now ∙ sym (ap (λ (a : Answer). listed (reply_of a c.args.room.now)) c.answer-in-Refused-1.given.1)),
-  prefix_len_of_le _ _ (search rules),
-)
+returns-in-Refused c =
+    record {
+      adds = said c.Put-refused.ensures.0
+          (refusal-listed c.answer-in-Refused-1.given.0.0 c.answer-in-Refused-1.given.0.1.0 c.args.room.now ∙ sym (ap (λ (a : Answer). listed (reply_of a c.args.room.now)) c.answer-in-Refused-1.given.1));
+      prefix_len = prefix_len_of_le _ _ (search rules);
+    }
