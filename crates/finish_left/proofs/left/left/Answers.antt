@@ -39,4 +39,4 @@ pub loop-p-smaller : goal.loop-p-smaller
 loop-p-smaller c = omega arith
 
 pub returns : goal.returns
-returns c = ends _ _ _ _ _ _ _ _ c.loop-p.invariant c.loop-p-test.false
+returns c = let e = ends _ _ _ _ _ _ _ _ c.loop-p.invariant c.loop-p-test.false in record { value = e.0; result_bound = e.1 }
