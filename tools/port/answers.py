@@ -83,7 +83,7 @@ class Names:
             if n == 0:
                 return p[0]
             n -= 1
-        return None
+        return p[0]
 
     def path(self, place, fields, goal):
         """The new path of fields at an old place above a goal."""
