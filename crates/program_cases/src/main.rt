@@ -2,10 +2,12 @@
 // docs/TESTS.md has the form of both.
 #![tactic(auto)]
 
+use std::io::Input;
+
 mod aloud;
 mod answer;
 mod input;
 
-fn main() {
-    aloud::answer_all();
+fn main(rt: HostRuntime) {
+    aloud::answer_all(&mut rt.reader(), &mut rt.stdout(), &mut rt.stderr());
 }

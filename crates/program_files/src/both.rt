@@ -4,6 +4,7 @@ ghost use Rattle.io.specs.Counts.{IsPrefixLen};
 
 use crate::read::ROOM;
 use crate::say::read_or_say;
+use std::rt::Files;
 
 // What came of them: if both were read whole, their lengths.
 #[derive(Drop)]
@@ -13,13 +14,13 @@ pub struct Both {
     pub trace: usize,
 }
 
-pub fn read_both(table: &mut [u8], trace: &mut [u8]) -> Both
+pub fn read_both<R: Files + Print>(rt: &R, table: &mut [u8], trace: &mut [u8]) -> Both
     requires table_len { length table.old ≡ ROOM }
     requires trace_len { length trace.old ≡ ROOM }
     ensures prefix_len { IsPrefixLen result.table table.new }
     ensures prefix_len_2 { IsPrefixLen result.trace trace.new }
 {
-    let first = read_or_say(b"table.rec", table);
+    let first = read_or_say(rt, b"table.rec", table);
     if !first.whole {
         return Both {
             whole: false,
@@ -27,7 +28,7 @@ pub fn read_both(table: &mut [u8], trace: &mut [u8]) -> Both
             trace: 0,
         };
     }
-    let second = read_or_say(b"trace.rec", trace);
+    let second = read_or_say(rt, b"trace.rec", trace);
     Both {
         whole: second.whole,
         table: first.length,

@@ -3,7 +3,7 @@ ghost use Rattle.std.specs.Prelude.{◌≡◌, length};
 ghost use Rattle.io.specs.Counts.{IsPrefixLen};
 
 use crate::read::{File, ROOM, read_file};
-use libc::STDOUT_FILENO;
+use std::rt::Files;
 
 // What came of a file: if it was read whole, its length.
 #[derive(Drop)]
@@ -12,24 +12,25 @@ pub struct Got {
     pub length: usize,
 }
 
-pub fn say(text: &[u8]) {
-    io::write_all(STDOUT_FILENO, text);
+// Where the output takes it: what can't be written is not told.
+pub fn say(rt: &impl Print, text: &[u8]) {
+    let _ = rt.write_all(text);
 }
 
 // Says what is wrong with a file that can't be read whole.
-pub fn read_or_say(name: &[u8], bytes: &mut [u8]) -> Got
+pub fn read_or_say<R: Files + Print>(rt: &R, name: &[u8], bytes: &mut [u8]) -> Got
     requires { length bytes.old ≡ ROOM }
     ensures { IsPrefixLen result.length bytes.new }
 {
-    match read_file(name, bytes) {
+    match read_file(rt, name, bytes) {
         File::Whole(n) => {
             return Got {
                 whole: true,
                 length: n,
             };
         }
-        File::TooLong => say(b"file too long\n"),
-        File::Missing => say(b"no file\n"),
+        File::TooLong => say(rt, b"file too long\n"),
+        File::Missing => say(rt, b"no file\n"),
     }
     Got {
         whole: false,

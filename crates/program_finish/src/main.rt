@@ -3,6 +3,6 @@
 
 mod show;
 
-fn main() {
-    show::show();
+fn main(rt: HostRuntime) {
+    show::show(&rt);
 }

@@ -12,6 +12,7 @@ use program_files::both::read_both;
 use program_files::read;
 use program_files::say::say;
 use program_files::write::write_file;
+use std::rt::Files;
 use text_steps::added;
 use text_steps::added::put_added;
 
@@ -40,15 +41,15 @@ pub fn put_finishing(out: &mut [u8], table: &[u8], trace: &[u8], room: &mut [u8]
 }
 
 // Writes the whole trace, and says which steps were added.
-fn keep(trace: &[u8], added: &[u8], text: &[u8]) {
-    if write_file(b"finished.rec", b"finished.rec.new", trace, added) {
-        say(text);
+fn keep<R: Files + Print>(rt: &R, trace: &[u8], added: &[u8], text: &[u8]) {
+    if write_file(rt, b"finished.rec", b"finished.rec.new", trace, added) {
+        say(rt, text);
     } else {
-        say(b"cannot write finished.rec\n");
+        say(rt, b"cannot write finished.rec\n");
     }
 }
 
-fn show_reply(table: &[u8], trace: &[u8]) {
+fn show_reply<R: Files + Print>(rt: &R, table: &[u8], trace: &[u8]) {
     let mut room = [0u8; added::ROOM];
     let mut text = [0u8; added::MOST];
     let shown = put_finishing(&mut text, table, trace, &mut room);
@@ -57,17 +58,17 @@ fn show_reply(table: &[u8], trace: &[u8]) {
     match answer {
         Answer::Done(k) => {
             let end = k * Record::BYTES;
-            keep(trace, &room[..end], &text[..n]);
+            keep(rt, trace, &room[..end], &text[..n]);
         }
-        Answer::Refused(_, _) => say(&text[..n]),
+        Answer::Refused(_, _) => say(rt, &text[..n]),
     }
 }
 
-pub fn show() {
+pub fn show<R: Files + Print>(rt: &R) {
     let mut table = [0u8; read::ROOM];
     let mut trace = [0u8; read::ROOM];
-    let both = read_both(&mut table, &mut trace);
+    let both = read_both(rt, &mut table, &mut trace);
     if both.whole {
-        show_reply(&table[..both.table], &trace[..both.trace]);
+        show_reply(rt, &table[..both.table], &trace[..both.trace]);
     }
 }

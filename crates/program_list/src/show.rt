@@ -9,6 +9,7 @@ use model::answer::Answer;
 use program_files::both::read_both;
 use program_files::read;
 use program_files::say::say;
+use std::rt::Files;
 use text::reply;
 use text::reply::put_reply;
 
@@ -23,17 +24,17 @@ pub fn put_listing(out: &mut [u8], table: &[u8], trace: &[u8]) -> usize
     put_reply(out, answer, &room)
 }
 
-fn show_reply(table: &[u8], trace: &[u8]) {
+fn show_reply(rt: &impl Print, table: &[u8], trace: &[u8]) {
     let mut text = [0u8; reply::MOST];
     let n = put_listing(&mut text, table, trace);
-    say(&text[..n]);
+    say(rt, &text[..n]);
 }
 
-pub fn show() {
+pub fn show<R: Files + Print>(rt: &R) {
     let mut table = [0u8; read::ROOM];
     let mut trace = [0u8; read::ROOM];
-    let both = read_both(&mut table, &mut trace);
+    let both = read_both(rt, &mut table, &mut trace);
     if both.whole {
-        show_reply(&table[..both.table], &trace[..both.trace]);
+        show_reply(rt, &table[..both.table], &trace[..both.trace]);
     }
 }

@@ -4,6 +4,6 @@
 mod refusal;
 mod show;
 
-fn main() {
-    show::show();
+fn main(rt: HostRuntime) {
+    show::show(&rt);
 }

@@ -5,7 +5,6 @@ ghost use Rattle.program_read.specs.Places.{InText};
 
 use crate::refusal;
 use crate::refusal::put_refusal;
-use libc::STDIN_FILENO;
 use litmus::litmus::litmus;
 use litmus_standing::standing::TRIED;
 use model::answer::{Answer, Refusal};
@@ -14,6 +13,8 @@ use model::table::{Cells, Program};
 use program_files::read::{File, read_all};
 use program_files::say::say;
 use program_files::write::write_file;
+use std::io::Input;
+use std::rt::Files;
 use text::lines::FIRST;
 use text::put::{put_number, put_word};
 
@@ -43,27 +44,27 @@ fn put_records(out: &mut [u8], records: usize) -> usize
 }
 
 // Writes the table, and says how many records it has.
-fn keep(table: &[u8], records: usize) {
-    if !write_file(b"table.rec", b"table.rec.new", table, b"") {
-        say(b"cannot write table.rec\n");
+fn keep<R: Files + Print>(rt: &R, table: &[u8], records: usize) {
+    if !write_file(rt, b"table.rec", b"table.rec.new", table, b"") {
+        say(rt, b"cannot write table.rec\n");
         return;
     }
     let mut text = [0u8; FIRST];
     let n = put_records(&mut text, records);
-    say(&text[..n]);
+    say(rt, &text[..n]);
 }
 
-fn say_refusal(text: &mut [u8], n: usize, why: Refusal, place: usize)
+fn say_refusal(rt: &impl Print, text: &mut [u8], n: usize, why: Refusal, place: usize)
     requires n_in_bounds { n + TRIED ≤ length text.old }
     requires in_text { InText why place n }
 {
     let mut said = [0u8; refusal::MOST];
     let length = put_refusal(&mut said, text, n, why, place);
-    say(&said[..length]);
+    say(rt, &said[..length]);
 }
 
 // A text of n bytes, with room behind it to try samples.
-fn show_reply(text: &mut [u8], n: usize)
+fn show_reply<R: Files + Print>(rt: &R, text: &mut [u8], n: usize)
     requires { n + TRIED ≤ length text.old }
 {
     let mut room = [0u8; TABLE];
@@ -71,17 +72,17 @@ fn show_reply(text: &mut [u8], n: usize)
     match answer {
         Answer::Done(k) => {
             let end = k * Record::BYTES;
-            keep(&room[..end], k);
+            keep(rt, &room[..end], k);
         }
-        Answer::Refused(why, place) => say_refusal(text, n, why, place),
+        Answer::Refused(why, place) => say_refusal(rt, text, n, why, place),
     }
 }
 
-pub fn show() {
+pub fn show<R: Files + Input + Print>(rt: &R) {
     let mut text = zeros();
-    match read_all(STDIN_FILENO, &mut text, MOST) {
-        File::Whole(n) => show_reply(&mut text, n),
-        File::TooLong => say(b"text too long\n"),
-        File::Missing => say(b"cannot read the text\n"),
+    match read_all(&mut rt.reader(), &mut text, MOST) {
+        File::Whole(n) => show_reply(rt, &mut text, n),
+        File::TooLong => say(rt, b"text too long\n"),
+        File::Missing => say(rt, b"cannot read the text\n"),
     }
 }

@@ -18,7 +18,7 @@ returns-in-Done c =
 pub returns-in-Refused : goal.returns-in-Refused
 returns-in-Refused c =
     record {
-      adds = said c.Put-refused.ensures.0
-          (refusal-listed c.answer-in-Refused-1.given.0.0 c.answer-in-Refused-1.given.0.1.0 c.args.room.now ∙ sym (ap (λ (a : Answer). listed (reply_of a c.args.room.now)) c.answer-in-Refused-1.given.1));
+      adds = said c.put_refused.ensures.adds
+          (refusal-listed c.in-Refused.why c.in-Refused.place c.args.room.now ∙ sym (ap (λ (a : Answer). listed (reply_of a c.args.room.now)) c.in-Refused.is));
       prefix_len = prefix_len_of_le _ _ (search rules);
     }

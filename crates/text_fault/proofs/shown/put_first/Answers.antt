@@ -1,0 +1,14 @@
+use borrow.Author.Rules.{rules}
+use Rattle.text.proofs.Adding.{then}
+use Rattle.text_fault.specs.Shown.{fault_line}
+use Rattle.text_fault.proofs.shown.put_first.Goals as goal
+
+-- BY-HAND: 9 answers for 7 goals
+pub returns : goal.returns
+unfolding fault_line
+returns c =
+    record {
+      adds = then c.put_word-at.ensures.adds
+          (then c.put_number-at.ensures.adds (then c.put_word-at-2.ensures.adds (then c.put_number-at-2.ensures.adds c.put_position.ensures.adds)));
+      upper_bound = search rules;
+    }
