@@ -25,4 +25,4 @@ returns-in-Refused-misread c =
 pub returns-in-Passed-misread : goal.returns-in-Passed-misread
 returns-in-Passed-misread c =
     reads c.args.trace.now c.args.i c.args.known _ c.read_record-e.ensures _ c.misread.ensures
-    c.in-Passed.is c.if-trace-ne0.false c.if-trace-i.false c.enum_told-in-Passed-misread-1.given.1 (omega arith)
+    c.in-Passed.is c.if-trace-ne0.false c.if-trace-i.false c.in-Passed-misread.is (omega arith)
