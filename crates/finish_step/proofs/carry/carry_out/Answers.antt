@@ -1,3 +1,4 @@
+use Rattle.std.proofs.Common.{arith}
 use Rattle.finish_step.proofs.Carried.{read-carried, write-carried, lock-carried, unlock-carried, local-carried, fence-carried}
 use Rattle.finish_step.proofs.carry.carry_out.Goals as goal
 
@@ -23,4 +24,4 @@ returns-in-7 c = rw (c.in-7.is, c.event-in-7.ensures) (local-carried _ _ _ _ _ _
 
 pub returns-in_default : goal.returns-in_default
 returns-in_default c =
-    rw c.event-in_default.ensures (fence-carried _ _ _ _ _ _ c.requires c.in_default.rest.0.0.0.0.1 c.in_default.rest.0.0.0.1 c.in_default.rest.0.0.1 c.in_default.rest.0.1 c.in_default.rest.1)
+    rw c.event-in_default.ensures (fence-carried _ _ _ _ _ _ c.requires (omega arith) (omega arith) (omega arith) (omega arith) (omega arith))

@@ -4,11 +4,6 @@ use Rattle.model.specs.Sizes.{processors}
 use Rattle.finish_step.proofs.Moving.{low, can-drain, drains-it, below, known-kind, may-carry-out, onwards, carries-it}
 use Rattle.finish_step.proofs.finishing.finishing_step.Goals as goal
 
--- BY-HAND: a place is passed on
--- the processor that moves is one of the four
-in-range : (c : goal.After-mover-p) → c.mover-p.result < processors
-in-range c = low _ _ _ _ _ _ c.requires _ c.mover-p.ensures
-
 pub drain_oldest-requires : goal.drain_oldest-requires
 drain_oldest-requires c =
     can-drain _ _ _ _ _ _ c.requires _ c.mover-p.ensures c.if-marks-p.true
@@ -19,7 +14,7 @@ returns-then-marks-p c =
 
 pub instruction-i-requires : goal.instruction-i-requires
 instruction-i-requires c =
-    (in-range c, below _ _ _ _ _ _ c.requires _ c.mover-p.ensures c.if-marks-p.false)
+    (low _ _ _ _ _ _ c.requires _ c.mover-p.ensures, below _ _ _ _ _ _ c.requires _ c.mover-p.ensures c.if-marks-p.false)
 
 pub step_kind-next-requires : goal.step_kind-next-requires
 step_kind-next-requires c =
@@ -40,37 +35,37 @@ returns c =
     _ _ _ _ _ c.carry_out-e.ensures _ c.advance.ensures
 
 pub overflow_add-p : goal.overflow_add-p
-overflow_add-p c = let l = in-range c in search rules
+overflow_add-p c = let l : c.mover-p.result < processors = low _ _ _ _ _ _ c.requires _ c.mover-p.ensures in search rules
 
 pub offset_bounds-marks-p : goal.offset_bounds-marks-p
-offset_bounds-marks-p c = let l = in-range c in search rules
+offset_bounds-marks-p c = let l : c.mover-p.result < processors = low _ _ _ _ _ _ c.requires _ c.mover-p.ensures in search rules
 
 pub bounds-marks-p : goal.bounds-marks-p
-bounds-marks-p c = let l = in-range c in search rules
+bounds-marks-p c = let l : c.mover-p.result < processors = low _ _ _ _ _ _ c.requires _ c.mover-p.ensures in search rules
 
 pub overflow_add-p-2 : goal.overflow_add-p-2
-overflow_add-p-2 c = let l = in-range c in search rules
+overflow_add-p-2 c = let l : c.mover-p.result < processors = low _ _ _ _ _ _ c.requires _ c.mover-p.ensures in search rules
 
 pub offset_bounds-marks-p-2 : goal.offset_bounds-marks-p-2
-offset_bounds-marks-p-2 c = let l = in-range c in search rules
+offset_bounds-marks-p-2 c = let l : c.mover-p.result < processors = low _ _ _ _ _ _ c.requires _ c.mover-p.ensures in search rules
 
 pub bounds-marks-p-2 : goal.bounds-marks-p-2
-bounds-marks-p-2 c = let l = in-range c in search rules
+bounds-marks-p-2 c = let l : c.mover-p.result < processors = low _ _ _ _ _ _ c.requires _ c.mover-p.ensures in search rules
 
 pub overflow_add-p-3 : goal.overflow_add-p-3
-overflow_add-p-3 c = let l = in-range c in search rules
+overflow_add-p-3 c = let l : c.mover-p.result < processors = low _ _ _ _ _ _ c.requires _ c.mover-p.ensures in search rules
 
 pub offset_bounds-marks-p-3 : goal.offset_bounds-marks-p-3
-offset_bounds-marks-p-3 c = let l = in-range c in search rules
+offset_bounds-marks-p-3 c = let l : c.mover-p.result < processors = low _ _ _ _ _ _ c.requires _ c.mover-p.ensures in search rules
 
 pub bounds-marks-p-3 : goal.bounds-marks-p-3
-bounds-marks-p-3 c = let l = in-range c in search rules
+bounds-marks-p-3 c = let l : c.mover-p.result < processors = low _ _ _ _ _ _ c.requires _ c.mover-p.ensures in search rules
 
 pub overflow_add-p-4 : goal.overflow_add-p-4
-overflow_add-p-4 c = let l = in-range c in search rules
+overflow_add-p-4 c = let l : c.mover-p.result < processors = low _ _ _ _ _ _ c.requires _ c.mover-p.ensures in search rules
 
 pub offset_bounds-marks-p-4 : goal.offset_bounds-marks-p-4
-offset_bounds-marks-p-4 c = let l = in-range c in search rules
+offset_bounds-marks-p-4 c = let l : c.mover-p.result < processors = low _ _ _ _ _ _ c.requires _ c.mover-p.ensures in search rules
 
 pub bounds-marks-p-4 : goal.bounds-marks-p-4
-bounds-marks-p-4 c = let l = in-range c in search rules
+bounds-marks-p-4 c = let l : c.mover-p.result < processors = low _ _ _ _ _ _ c.requires _ c.mover-p.ensures in search rules
