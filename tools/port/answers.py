@@ -162,13 +162,19 @@ def turn_body(text, names, place, marks):
                 chunk = re.sub(r"(?<![\w'.₀-₉-])" + re.escape(head) + r"(?![\w'₀-₉-])", "c" if kind == "place" else ".".join(value), chunk)
         out += chunk
         if not m:
-            return out
+            return arms(out)
         if m.group(2) in alias:
             alias[m.group(1)] = resolve(m.group(2), m.group(3)[1:].split("."))
             pos = m.end()
         else:
             out += m.group(0)
             pos = m.end()
+
+
+def arms(text):
+    """What an arm knows, by the arm's name."""
+    text = re.sub(r"\bc\.(in-[A-Z]\w*)\.keys\d+", r"c.\1.is", text)
+    return re.sub(r"\bc\.[\w]+-(in-[A-Z]\w*)-\d+\.given\.1\b", r"c.\1.is", text)
 
 
 def record_of(body, labels):

@@ -22,18 +22,18 @@ module _ (codes cells marks : List ℕ) (steps : ℕ) (room : List ℕ) (f : Boo
   abbrev told : Reply
   told = reported_in codes cells marks steps room
 
-  pub unfinished : not f ≡ true → refuse 12 steps room ≡ told
+  pub unfinished : f ≡ false → refuse 12 steps room ≡ told
   unfolding reported_in
-  unfinished n = rw (sym finished ∙ not-true f n)
+  unfinished n = rw (sym finished ∙ n)
 
-  pub too_small : not f ≡ false → length room < 25 → refuse 13 25 room ≡ told
+  pub too_small : f ≡ true → length room < 25 → refuse 13 25 room ≡ told
   unfolding reported_in
-  too_small n l = rw (sym finished ∙ not-false f n) (sym (written-not steps 25 (take 24 cells ++ (own_in marks ∷ [])) room l))
+  too_small n l = rw (sym finished ∙ n) (sym (written-not steps 25 (take 24 cells ++ (own_in marks ∷ [])) room l))
 
-  pub reports : not f ≡ false → 25 ≤ length room → 24 ≤ length cells → (after : List ℕ) → after ≡ take 24 cells ++ drop (length (take 24 cells)) room
+  pub reports : f ≡ true → 25 ≤ length room → 24 ≤ length cells → (after : List ℕ) → after ≡ take 24 cells ++ drop (length (take 24 cells)) room
       → done steps (set after 24 (own_in marks)) ≡ told
   unfolding reported_in
   reports n l h after e =
-      rw (sym finished ∙ not-false f n)
+      rw (sym finished ∙ n)
       (ap (λ (r : List ℕ). done steps (set r 24 (own_in marks))) e ∙ ap (done steps) (one-behind (take 24 cells) room 24 (own_in marks) (length-take-le 24 cells h) l)
       ∙ sym (written-fits steps 25 (take 24 cells ++ (own_in marks ∷ [])) room l))

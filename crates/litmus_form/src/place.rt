@@ -9,7 +9,7 @@ use crate::patterns::is_mark;
 use litmus_token::words::same_bytes;
 use model::record::Record;
 
-#[derive(Drop)]
+#[derive(Clone, Copy)]
 pub enum Place {
     Braces,
     Row(usize, usize),

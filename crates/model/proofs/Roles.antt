@@ -1,14 +1,12 @@
 -- Roles: what holds of each, and what the role of a record's kind says of its entry.
 use mathlib.Core.Path.{◌≡◌, refl, sym, ap, ◌∙◌, subst}
-use mathlib.Core.Logic.{inl, inr}
+use mathlib.Core.Logic.{◌⊎◌, inl, inr}
 use mathlib.Core.Bool.{Bool, true, false}
 use mathlib.Core.List.{List, [], ◌∷◌, map}
 use Prim.Native.Nat.{ℕ, zero, suc, ◌<◌}
 use native.Mathlib.Omega.{arith}
 use lib.Dec.{ltb}
 use borrow.Author.Tests.{ltb-true, ltb-false}
-use types.Run.{OneOf}
-use denote.Enum.Declared.{tag_of}
 use lib.ListN.{get_or, get_or-eq_default}
 use Rattle.model.specs.declared.record.Record.{Record}
 use Rattle.model.specs.declared.kind.Role.{Role}
@@ -19,7 +17,6 @@ use Rattle.model.specs.Tests.{unknown}
 use Rattle.model.specs.Program.{Instruction}
 use Rattle.model.specs.Kinds.{Entry, Kind, initial_memory, initial_register, instruction, table_kinds, table_uses, table_rows, entry_of}
 use Rattle.model.specs.Code.{role_in, role_of}
-use Rattle.model.specs.contracts.kind.Role.{the_type}
 use Rattle.model.proofs.Bools.{false-true}
 use Rattle.model.proofs.Fields.{known-test}
 use Rattle.model.proofs.Rows.{below}
@@ -38,27 +35,18 @@ by-role K a b c d e f g h i j Fence = h
 by-role K a b c d e f g h i j Exchange = i
 by-role K a b c d e f g h i j ExchangeAdd = j
 
--- ---- where a role is told by an arm of a `match`: its tag is one of those of the roles that the arm names
+-- ---- where a role is told by an arm of a `match`: it is one of those that the arm names
 
-abbrev pub tag : Role → ℕ
-tag = tag_of the_type
-
--- the role of a tag
-role_at : ℕ → Role
-role_at n = get_or (Unknown ∷ InitialMemory ∷ InitialRegister ∷ StoreConstant ∷ StoreRegister ∷ Load ∷ SetRegister ∷ Fence ∷ Exchange ∷ ExchangeAdd ∷ []) n Unknown
-
-one_tag : (o a : Role) → tag o ≡ tag a → a ≡ o
-unfolding role_at
-one_tag o a e = sym (back a) ∙ ap role_at (sym e) ∙ back o
-  where
-    back : (o : Role) → role_at (tag o) ≡ o
-    back = by-role (λ o. role_at (tag o) ≡ o) refl refl refl refl refl refl refl refl refl refl
+abbrev pub OneOf : List Role → Role → Type 0
+OneOf [] o = ⊥
+OneOf (a ∷ []) o = o ≡ a
+OneOf (a ∷ b ∷ os) o = (o ≡ a) ⊎ OneOf (b ∷ os) o
 
 -- what holds of the roles that an arm names holds of the one that came to it
-pub by_arm : (K : Role → Type 0) (os : List Role) → All K os → (o : Role) → OneOf (map tag os) (tag o) → K o
+pub by_arm : (K : Role → Type 0) (os : List Role) → All K os → (o : Role) → OneOf os o → K o
 by_arm K [] h o t = absurd t
-by_arm K (a ∷ []) h o t = subst K (one_tag o a t) h.0
-by_arm K (a ∷ b ∷ os) h o (inl t) = subst K (one_tag o a t) h.0
+by_arm K (a ∷ []) h o t = subst K (sym t) h.0
+by_arm K (a ∷ b ∷ os) h o (inl t) = subst K (sym t) h.0
 by_arm K (a ∷ b ∷ os) h o (inr t) = by_arm K (b ∷ os) h.1 o t
 
 -- every role but one
@@ -127,17 +115,17 @@ module _ (r : Record) where
       is e = rw e.1 (i e.0 e.1)
 
   -- where its role is told, or told to be none of the two initial ones
-  abbrev others : List Role
-  others = Unknown ∷ StoreConstant ∷ StoreRegister ∷ Load ∷ SetRegister ∷ Fence ∷ Exchange ∷ ExchangeAdd ∷ []
-
   module _ (known : Known table_uses r) (role : Role) (is : role ≡ role_of r.kind) where
     pub entry-as : (o : Role) → role ≡ o → Says o r.kind
     entry-as o e = subst (λ (a : Role). Says a r.kind) (sym is ∙ e) (entry-is known)
 
-    pub instruction-as : OneOf (map tag others) (tag role) → SomeInstruction r.kind
-    instruction-as t =
-        by_arm (λ o. Says o r.kind → SomeInstruction r.kind) others
-        (λ h. absurd h, (λ h. h, (λ h. h, (λ h. h, (λ h. h, (λ h. h, (λ h. h, (λ h. h, tt)))))))) role t (entry-as role refl)
+    pub instruction-as : ¬ (role ≡ InitialMemory) → ¬ (role ≡ InitialRegister) → SomeInstruction r.kind
+    instruction-as m q =
+        by-role (λ o. role ≡ o → Says o r.kind → SomeInstruction r.kind) (λ e h. absurd h) (λ e. absurd (m e)) (λ e. absurd (q e)) same same same same same same same role refl
+        (entry-as role refl)
+      where
+        same : {o : Role} → role ≡ o → SomeInstruction r.kind → SomeInstruction r.kind
+        same e h = h
 
   -- ---- whether its kind is known
 

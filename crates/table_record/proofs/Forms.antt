@@ -3,7 +3,6 @@ use mathlib.Core.Path.{◌≡◌, refl, sym, ap, ◌∙◌}
 use mathlib.Core.Bool.{Bool, true, false}
 use mathlib.Core.List.{List, [], ◌∷◌, map}
 use Prim.Native.Nat.{ℕ, ◌<◌}
-use types.Run.{OneOf}
 use Rattle.model.specs.declared.record.Record.{Record}
 use Rattle.model.specs.declared.kind.Role.{Role}
 use Rattle.model.specs.declared.kind.Role.TheVariants.{Unknown, InitialMemory, InitialRegister, StoreConstant, StoreRegister, Load, SetRegister, Fence, Exchange, ExchangeAdd}
@@ -13,7 +12,7 @@ use Rattle.model.specs.Kinds.{table_uses, table_rows}
 use Rattle.model.specs.Code.{role_of}
 use Rattle.model.specs.Tests.{unknown, too_large, not_zero}
 use Rattle.model.proofs.Fields.{known-test, range-test, zero_test, proper-fields}
-use Rattle.model.proofs.Roles.{tag, by_arm, Named, known-by-role}
+use Rattle.model.proofs.Roles.{OneOf, by_arm, Named, known-by-role}
 use Rattle.model.proofs.Rows.{below}
 use Rattle.record.specs.Fields.{row_of}
 use Rattle.table_record.specs.Given.{Formed}
@@ -45,7 +44,7 @@ row-of r told o e t n =
 
 -- and where it is told to be one of these
 pub row-of-one : (r : Record) (os : List Role) (row : List Bool) → All (λ o. Named o × (used_by o ≡ row)) os
-    → (told : Role) → told ≡ role_of r.kind → OneOf (map tag os) (tag told) → Known table_uses r × (row ≡ row_of table_uses r.kind)
+    → (told : Role) → told ≡ role_of r.kind → OneOf os told → Known table_uses r × (row ≡ row_of table_uses r.kind)
 row-of-one r os row each told e t =
     let n = by_arm (λ o. Named o × (used_by o ≡ row)) os each told t in
     let is = row-of r told told e refl n.0 in

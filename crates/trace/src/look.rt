@@ -8,7 +8,7 @@ use model::record::Record;
 use record::bytes;
 
 // A record that is to be stepped, or none.
-#[derive(Drop)]
+#[derive(Clone, Copy)]
 pub struct Seen {
     pub due: bool,
     pub e: Record,
