@@ -14,7 +14,7 @@ use program_files::say::say;
 use program_files::write::write_file;
 use std::rt::Files;
 use text_steps::added;
-use text_steps::added::put_added;
+use text_steps::added::{MOST as ADDED, ROOM as ADDED_ROOM, put_added};
 
 // An answer, and the length of its text.
 #[derive(Drop)]
@@ -25,8 +25,8 @@ pub struct Shown {
 
 // Finishes the run, and puts the text of the reply at the start of out.
 pub fn put_finishing(out: &mut [u8], table: &[u8], trace: &[u8], room: &mut [u8]) -> Shown
-    requires do_in_bounds { added.MOST ≤ length out.old }
-    requires room_bound { length room.old ≤ added.ROOM }
+    requires do_in_bounds { ADDED ≤ length out.old }
+    requires room_bound { length room.old ≤ ADDED_ROOM }
     ensures room_after { reply_of result.answer room.new ≡ completed table.now trace.now room.old }
     ensures adds { Adds out.old 0 (shown (completed table.now trace.now room.old)) out.new result.length }
     ensures prefix_len { IsPrefixLen result.length out.new }

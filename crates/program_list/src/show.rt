@@ -11,11 +11,11 @@ use program_files::read;
 use program_files::say::say;
 use std::rt::Files;
 use text::reply;
-use text::reply::put_reply;
+use text::reply::{MOST as REPLY, put_reply};
 
 // Checks, and puts the listing at the start of out. Answers its length.
 pub fn put_listing(out: &mut [u8], table: &[u8], trace: &[u8]) -> usize
-    requires { reply.MOST ≤ length out.old }
+    requires { REPLY ≤ length out.old }
     ensures prefix_len { IsPrefixLen result out.new }
     ensures fact { Adds out.old 0 (listed (checked table.now trace.now (replicate Answer.WORDS 0))) out.new result }
 {

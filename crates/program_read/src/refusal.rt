@@ -9,7 +9,7 @@ use model::number::number;
 use text::lines::put_refused;
 use text::put::{LINE_END, put_byte, put_number, put_word};
 use text_fault::fault;
-use text_fault::fault::put_fault;
+use text_fault::fault::{MOST as FAULT, put_fault};
 
 // No words of a refusal are longer, but for the list of what could stand.
 const WORDS: usize = 64;
@@ -49,7 +49,7 @@ fn put_place(out: &mut [u8], why: Refusal, text: &[u8], n: usize, place: usize) 
     requires in_bounds { MOST ≤ length out.old }
     requires n_in_bounds { n ≤ length text.now }
     requires place_le_n { place ≤ n }
-    ensures { result ≤ fault.MOST }
+    ensures { result ≤ FAULT }
 {
     put_fault(out, number(why), &text[..n], place)
 }
