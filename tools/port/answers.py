@@ -85,19 +85,18 @@ class Names:
             n -= 1
         return None
 
-    def path(self, place, fields):
-        """The new path of fields at an old place."""
-        p = self.places[place]
+    def path(self, place, fields, goal):
+        """The new path of fields at an old place above a goal."""
         step = fields[0]
-        old, new = p[2]
-        for q in self.chain(place):
+        above = list(self.chain(place)) + [q for q in self.chain(goal)]
+        for q in above:
             a = self.arms[self.index[q[0]]]
             if not a:
                 continue
             for field, at, sub in a[2]:
-                if at == step and sub and fields[1 : 1 + len(sub)] == sub and (q[0] == place or True):
+                if at == step and sub and fields[1 : 1 + len(sub)] == sub:
                     return [a[0], field] + fields[1 + len(sub) :]
-        for q in self.chain(place):
+        for q in above:
             if q[2][0] == step or q[2][0].replace("-", "_") == step.replace("-", "_"):
                 rest = fields[1:]
                 if q[3] in CLAUSES and rest[:1] == ["ensures"]:
@@ -137,7 +136,7 @@ def turn_body(text, names, place, marks):
             fields = fields[1:]
         if not fields:
             return ("place", at)
-        return ("path", ["c"] + names.path(at, fields))
+        return ("path", ["c"] + names.path(at, fields, place))
 
     let = re.compile(r"let (" + ID + r") = (" + ID + r")((?:\.[\w'₀-₉-]+)+) in\s*")
     out = ""

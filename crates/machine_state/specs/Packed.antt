@@ -33,8 +33,8 @@ cells_in cells = cells_of (registers_in cells) (memory_in cells)
 abbrev pub holder_at : ℕ
 holder_at = 0
 
-abbrev pub field_own : ℕ
-field_own = 1
+abbrev pub own_at : ℕ
+own_at = 1
 
 abbrev pub stands_at : ℕ → ℕ
 stands_at p = 4 + p
@@ -52,7 +52,7 @@ abbrev pub holder_in : List ℕ → ℕ
 holder_in marks = get_or marks holder_at 0
 
 abbrev pub own_in : List ℕ → ℕ
-own_in marks = get_or marks field_own 0
+own_in marks = get_or marks own_at 0
 
 abbrev pub free_in : List ℕ → List ℕ
 free_in marks = slice 2 4 marks

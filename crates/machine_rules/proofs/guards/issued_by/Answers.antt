@@ -1,6 +1,6 @@
-use Rattle.std.proofs.Common.{◌≡◌, [], ◌∷◌, refl}
-use Rattle.model.proofs.Roles.{by_arm}
-use Rattle.model.specs.declared.kind.Role.TheVariants.{Unknown, InitialMemory, InitialRegister, StoreRegister, Load, SetRegister, Fence, Exchange}
+use Rattle.std.proofs.Common.{◌≡◌, ℕ, refl}
+use Rattle.model.specs.declared.kind.Role.{Role}
+use Rattle.model.specs.declared.kind.Role.TheVariants.{Unknown, InitialMemory, InitialRegister, StoreConstant, StoreRegister, Load, SetRegister, Fence, Exchange, ExchangeAdd}
 use Rattle.model.specs.Code.{acts}
 use Rattle.machine_rules.proofs.guards.issued_by.Goals as goal
 
@@ -8,11 +8,21 @@ pub returns-in-StoreConstant : goal.returns-in-StoreConstant
 returns-in-StoreConstant c = rw (← c.role_of.ensures, c.in-StoreConstant.is)
 
 pub returns-in-ExchangeAdd : goal.returns-in-ExchangeAdd
-returns-in-ExchangeAdd c = rw (← c.role_of.ensures, c.enum_told-in-ExchangeAdd-1.given.1) c.wrapping_add_u32.ensures
+returns-in-ExchangeAdd c = rw (← c.role_of.ensures, c.in-ExchangeAdd.is) c.wrapping_add_u32.ensures.value
+
+-- every other role issues what the register holds
+issues-register : (o : Role) (constant kept register : ℕ) → ¬ (o ≡ StoreConstant) → ¬ (o ≡ ExchangeAdd) → register ≡ (acts o).issues constant kept register
+issues-register Unknown c k r s e = refl
+issues-register InitialMemory c k r s e = refl
+issues-register InitialRegister c k r s e = refl
+issues-register StoreConstant c k r s e = absurd (s refl)
+issues-register StoreRegister c k r s e = refl
+issues-register Load c k r s e = refl
+issues-register SetRegister c k r s e = refl
+issues-register Fence c k r s e = refl
+issues-register Exchange c k r s e = refl
+issues-register ExchangeAdd c k r s e = absurd (e refl)
 
 pub returns-in_default : goal.returns-in_default
 returns-in_default c =
-    rw (← c.role_of.ensures)
-    (by_arm (λ o. c.args.register ≡ (acts o).issues c.args.constant c.args.kept c.args.register)
-    (Unknown ∷ InitialMemory ∷ InitialRegister ∷ StoreRegister ∷ Load ∷ SetRegister ∷ Fence ∷ Exchange ∷ [])
-    (refl, (refl, (refl, (refl, (refl, (refl, (refl, (refl, tt)))))))) c.role_of.result c.in_default.keys3)
+    rw (← c.role_of.ensures) (issues-register c.role_of.result c.args.constant c.args.kept c.args.register c.in_default.not-StoreConstant c.in_default.not-ExchangeAdd)

@@ -6,7 +6,7 @@ use Rattle.record.proofs.Stores.{record-set}
 use Rattle.record.proofs.bytes.write_record.Goals as goal
 
 pub shape_of-room : goal.shape_of-room
-shape_of-room c = simp length-set at c.put_value.auto.0
+shape_of-room c = simp length-set at c.put_value.auto.bytes
 
 pub returns : goal.returns
 returns c =
