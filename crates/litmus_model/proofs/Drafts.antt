@@ -272,7 +272,7 @@ unfolding field_of numbered
 cell-sound {ss} seen few g (phrase f i h) =
     form-sound true seen f.kind f.patterns ss (blank 0) (clean-in true cell_forms f cells-clean i) few (blank-fair seen 0 (omega arith)) (each _ (λ e. refl) (λ e. refl) (λ e. refl) (λ e. refl)) h g
 
-pub row-cell-sound : {ss : List Said} {es : List Entry} (seen : List ℕ) (mark : Token) (p : ℕ) → length seen ≤ locations → p < processors → AllGood seen ss
+pub row-cell-sound : {ss : List Said} (seen : List ℕ) (mark : Token) (p : ℕ) {es : List Entry} → length seen ≤ locations → p < processors → AllGood seen ss
     → Phrase (row_forms mark) (blank p) ss es → AllSound false seen es
 unfolding field_of numbered among
 row-cell-sound {ss} seen mark p few l g (phrase f i h) =
