@@ -83,7 +83,7 @@ class Names:
             if n == 0:
                 return p[0]
             n -= 1
-        return None
+        return p[0]
 
     def path(self, place, fields, goal):
         """The new path of fields at an old place above a goal."""
@@ -335,6 +335,7 @@ def turn(crate, f, names):
             new, at = names.needs[need]
             body = it.split("\n", 1)[1]
             body = re.sub(r"^" + re.escape(name) + r"(?= )", new, body, flags=re.M)
+            body = re.sub(r"^(" + re.escape(new) + r" c) κs(?= )", r"\1", body, flags=re.M)
             body = record_of(turn_body(body, names, at, marks), names.labels(new))
             ans.append((comment, f"pub {new} : goal.{new}\n{body}"))
             turned[name] = new

@@ -1,7 +1,7 @@
 use crate::table::Cells;
 
 // Why a step is turned down, in the words of document 02, order 1. specs/Rules.antt says when each is met, for which steps, and gives its number.
-#[derive(Drop)]
+#[derive(Clone, Copy)]
 pub enum Condition {
     // The program's next step is another kind, or the program has ended.
     AnotherKind,
@@ -15,7 +15,7 @@ pub enum Condition {
 }
 
 // The answer to a call. specs/Reply.antt gives document 01's number and place for each case.
-#[derive(Drop)]
+#[derive(Clone, Copy)]
 pub enum Refusal {
     TableLength,
     TableKind,
@@ -39,7 +39,7 @@ pub enum Refusal {
 }
 
 // Done: the steps in the trace when checking, k when finishing, the records of a litmus text. Refused: why, and the place.
-#[derive(Drop)]
+#[derive(Clone, Copy)]
 pub enum Answer {
     Done(usize),
     Refused(Refusal, usize),
@@ -51,14 +51,14 @@ impl Answer {
 }
 
 // What is tested may go on, or is refused: why, and the place.
-#[derive(Drop)]
+#[derive(Clone, Copy)]
 pub enum Verdict {
     Passed,
     Refused(Refusal, usize),
 }
 
 // A step is taken, or turned down: why.
-#[derive(Drop)]
+#[derive(Clone, Copy)]
 pub enum Attempt {
     Taken,
     Turned(Refusal),

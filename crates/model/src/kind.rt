@@ -3,7 +3,7 @@ ghost use Rattle.std.specs.Prelude.{◌≡◌};
 ghost use Rattle.model.specs.Code.{role_of};
 
 // What a record is, by its kind: said once, and asked wherever kinds differ. Whether an exchange locks is in its program steps.
-#[derive(Drop)]
+#[derive(Clone, Copy)]
 pub enum Role {
     Unknown,
     InitialMemory,

@@ -1,5 +1,5 @@
 // Where a read gets its value.
-#[derive(Drop)]
+#[derive(Clone, Copy)]
 pub enum Origin {
     Memory,
     // The own waiting write at this position, counted from the oldest, from 0.

@@ -1,5 +1,5 @@
 // A record of a table or of a trace: eight bytes, the value in the last four, lowest first.
-#[derive(Drop)]
+#[derive(Clone, Copy)]
 pub struct Record {
     pub kind: u8,
     pub processor: u8,
