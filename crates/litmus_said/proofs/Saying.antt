@@ -1,6 +1,6 @@
 -- What a token says at its pattern, and what that makes of the record under way.
 use mathlib.Core.Path.{◌≡◌, refl, ap, sym, ◌∙◌, subst, subst⁻¹}
-use mathlib.Core.Bool.{Bool, true, false, cond, not, ◌||◌}
+use mathlib.Core.Bool.{Bool, true, false, cond, ◌||◌}
 use mathlib.Core.Option.{Option, none, some}
 use mathlib.Core.Logic.{◌⊎◌, inl, inr}
 use mathlib.Core.List.{List, [], ◌∷◌}
@@ -11,7 +11,7 @@ use lib.Dec.{eqb, leb}
 use lib.IntN.{ℤ}
 use mir.Syntax.{w64}
 use mir.Val.{to_z, of_z}
-use borrow.Author.Tests.{ne_eqb, le-leb, lt-leb, not-true, not-false}
+use borrow.Author.Tests.{ne_eqb, le-leb, lt-leb}
 use Rattle.model.specs.declared.record.Record.{Record}
 use Rattle.model.specs.declared.answer.Refusal.{Refusal}
 use Rattle.model.specs.declared.answer.Refusal.TheVariants.{TextLimit, TextConstant}
@@ -45,16 +45,16 @@ says-processor n v e h =
 judged : (v w : ℤ) (b : Bool) → w ≡ capped_z v → b ≡ in_range (to_z w64 (of_z w64 w)) → b ≡ in_range v
 judged v w b e t = t ∙ ap in_range (read_back v w e) ∙ range-capped v
 
-pub says-out : (v w : ℤ) (b : Bool) → w ≡ capped_z v → b ≡ in_range (to_z w64 (of_z w64 w)) → not b ≡ true → Says (a_constant v) (Wrong TextConstant)
-says-out v w b e t h = out_of_range (λ r. false-true (sym (not-true b h) ∙ judged v w b e t ∙ in-range v r))
+pub says-out : (v w : ℤ) (b : Bool) → w ≡ capped_z v → b ≡ in_range (to_z w64 (of_z w64 w)) → b ≡ false → Says (a_constant v) (Wrong TextConstant)
+says-out v w b e t h = out_of_range (λ r. false-true (sym h ∙ judged v w b e t ∙ in-range v r))
 
-inside : (v w : ℤ) (b : Bool) → w ≡ capped_z v → b ≡ in_range (to_z w64 (of_z w64 w)) → not b ≡ false → InRange v
-inside v w b e t h = range-in v (sym (judged v w b e t) ∙ not-false b h)
+inside : (v w : ℤ) (b : Bool) → w ≡ capped_z v → b ≡ in_range (to_z w64 (of_z w64 w)) → b ≡ true → InRange v
+inside v w b e t h = range-in v (sym (judged v w b e t) ∙ h)
 
-pub held : (v w : ℤ) (b : Bool) → w ≡ capped_z v → b ≡ in_range (to_z w64 (of_z w64 w)) → not b ≡ false → InRange (to_z w64 (of_z w64 w))
+pub held : (v w : ℤ) (b : Bool) → w ≡ capped_z v → b ≡ in_range (to_z w64 (of_z w64 w)) → b ≡ true → InRange (to_z w64 (of_z w64 w))
 held v w b e t h = let r = inside v w b e t h in subst⁻¹ InRange (read_back v w e ∙ capped-in v r) r
 
-pub says-value : (v w : ℤ) (b : Bool) (n : ℕ) → w ≡ capped_z v → b ≡ in_range (to_z w64 (of_z w64 w)) → not b ≡ false → n ≡ stored (to_z w64 (of_z w64 w)) → Says (a_constant v) (Value n)
+pub says-value : (v w : ℤ) (b : Bool) (n : ℕ) → w ≡ capped_z v → b ≡ in_range (to_z w64 (of_z w64 w)) → b ≡ true → n ≡ stored (to_z w64 (of_z w64 w)) → Says (a_constant v) (Value n)
 says-value v w b n e t h s =
     let r = inside v w b e t h in
     subst⁻¹ (λ (k : ℕ). Says (a_constant v) (Value k)) (s ∙ ap stored (read_back v w e ∙ capped-in v r)) (value r)
