@@ -11,7 +11,7 @@
  * and the answers are proved. docs/FORMAT.md says when a step is allowed; examples/c/handover.c is
  * a program to begin from.
  *
- * Link with libambercell.a, which `rt staticlib ambercell` writes to target/staticlib: x86-64 with
+ * Link with libambercell.a, which `bin/library` writes to target/staticlib: x86-64 with
  * System V calls, as on Linux. It needs nothing else to link.
  */
 #ifndef AMBERCELL_H

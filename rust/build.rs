@@ -1,4 +1,4 @@
-//! Links the proved library, which `rt staticlib ambercell` writes. It is code for x86-64 with System V calls.
+//! Links the proved library, which `bin/library` writes. It is code for x86-64 with System V calls.
 //!
 //! `.ci/rust` sets AMBERCELL_WITHOUT_LIBRARY where that cannot link, to check types and to test what calls nothing.
 use std::env;
@@ -18,7 +18,7 @@ fn main() {
     let library = folder.join("libambercell.a");
     assert!(
         library.exists(),
-        "no {}: run `rt staticlib ambercell` first",
+        "no {}: run `bin/library` first",
         library.display()
     );
 

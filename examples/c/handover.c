@@ -6,7 +6,7 @@
  * First one order of their steps is checked, and then a run finished from nothing. To build and run
  * it, in the repository:
  *
- *     rt staticlib ambercell
+ *     bin/library
  *     cc -Iinclude -o target/handover examples/c/handover.c target/staticlib/libambercell.a && target/handover
  */
 #include <inttypes.h>

@@ -2,7 +2,7 @@
  * A litmus text becomes a table, and a run of it is finished from nothing. To build and run it, in
  * the repository:
  *
- *     rt staticlib ambercell
+ *     bin/library
  *     cc -Iinclude -o target/litmus examples/c/litmus.c target/staticlib/libambercell.a && target/litmus
  */
 #include <inttypes.h>
