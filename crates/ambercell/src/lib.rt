@@ -1,4 +1,4 @@
-// The calls for C, C++ and Rust, as include/ambercell.h declares them: a slice is a pointer and a length there.
+// The calls for C, C++ and Rust, which ambercell_c exports as include/ambercell.h declares them.
 #![tactic(auto)]
 
 ghost use Rattle.std.specs.Prelude.{◌≡◌};
@@ -33,22 +33,19 @@ fn numbered(answer: Answer) -> CAnswer
     }
 }
 
-#[unsafe(no_mangle)]
-pub extern "C" fn ambercell_check(table: &[u8], trace: &[u8], room: &mut [u32]) -> CAnswer
+pub fn ambercell_check(table: &[u8], trace: &[u8], room: &mut [u32]) -> CAnswer
     ensures { reply_in result room.new ≡ checked table.now trace.now room.old }
 {
     numbered(check::check(table, trace, room))
 }
 
-#[unsafe(no_mangle)]
-pub extern "C" fn ambercell_finish(table: &[u8], trace: &[u8], room: &mut [u8]) -> CAnswer
+pub fn ambercell_finish(table: &[u8], trace: &[u8], room: &mut [u8]) -> CAnswer
     ensures { reply_in result room.new ≡ completed table.now trace.now room.old }
 {
     numbered(finish::finish(table, trace, room))
 }
 
-#[unsafe(no_mangle)]
-pub extern "C" fn ambercell_litmus(text: &[u8], room: &mut [u8]) -> CAnswer
+pub fn ambercell_litmus(text: &[u8], room: &mut [u8]) -> CAnswer
     ensures { reply_in result room.new ≡ imported text.now room.old }
 {
     numbered(litmus::litmus::litmus(text, room))

@@ -13,8 +13,9 @@ use trace::follow;
 pub fn finish(table: &[u8], trace: &[u8], room: &mut [u8]) -> Answer
     ensures { reply_of result room.new ≡ completed table.now trace.now room.old }
 {
-    let mut program = start::no_program();
+    // The machine before the program: the other way round LLVM leaves a call of memset (docs/DECISIONS.md).
     let mut m = start::at_start();
+    let mut program = start::no_program();
     let read = in_place::read_in_place(&mut program, &mut m, table);
     let end = follow::follow_in_place(&program, &mut m, read, trace);
     reply::finish_in_place(&program, &mut m, end, room)

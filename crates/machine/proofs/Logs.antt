@@ -10,7 +10,7 @@ use lib.Dec.{eqb}
 use borrow.Author.Tests.{eqb-true, eqb-false}
 use Rattle.model.specs.Code.{place_at}
 use Rattle.model.specs.Sizes.{processors, instructions_each}
-use Rattle.model.specs.Machine.{WaitingWrite, write_of, drained}
+use Rattle.model.specs.Machine.{WaitingWrite, write_of}
 use Rattle.model.specs.Step.{is_empty}
 use Rattle.model.proofs.Rows.{part-set-other}
 use Rattle.machine_rules.specs.Offers.{writes_in}

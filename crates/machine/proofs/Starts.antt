@@ -6,7 +6,7 @@ use native.Mathlib.Omega.{arith}
 use lib.ListN.{replicate}
 use lib.Dec.{lit<}
 use Rattle.model.specs.declared.table.Cells.{Cells}
-use Rattle.model.specs.Sizes.{processors, registers_each, instructions_each, steps_each, longest_trace}
+use Rattle.model.specs.Sizes.{registers_each, instructions_each, steps_each, longest_trace}
 use Rattle.model.specs.Left.{left_of, left_in, left}
 use Rattle.model.specs.Code.{Columns, row, unread, steps_from, count_in, processor_at_start, start_of, Fits, Sized}
 use Rattle.model.proofs.Columns.{few-writes, few-steps}

@@ -1,6 +1,6 @@
 -- The machine that a state stands for, where g has the programs.
 use Rattle.std.specs.Prelude.{cond, List, ℕ, ◌-◌, get_or, drop, eqb}
-use Rattle.model.specs.Sizes.{processors, registers_each}
+use Rattle.model.specs.Sizes.{registers_each}
 use Rattle.model.specs.Program.{ProgramStep}
 use Rattle.model.specs.Machine as model
 use Rattle.model.specs.Machine.{WaitingWrite, Processor, Holder, free, held}

@@ -49,6 +49,7 @@ text-above : {n : ℕ} → In n (19 ∷ 20 ∷ 21 ∷ []) → 19 ≤ n
 text-above (inl e) = omega arith
 text-above (inr (inl e)) = omega arith
 text-above (inr (inr (inl e))) = omega arith
+text-above {n = n} (inr (inr (inr x3))) = elim x3 [ ]
 
 reply-inside : (text room : List ℕ) (q : Reply) → Imports text room q → 19 ≤ q.number → q.place ≤ length text
 reply-inside text room q (text_refused {n} {i} g) h = answer-inside n i g.answer (tokens-inside g.tokens (length text) (omega arith)) refl

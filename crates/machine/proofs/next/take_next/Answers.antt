@@ -1,3 +1,4 @@
+use Rattle.std.proofs.Common.{rules}
 use Rattle.model.specs.Kinds.{step_uses}
 use Rattle.model.specs.Fields.{among}
 use Rattle.machine.proofs.Nexts.{read_next, write-next, fence-next, lock-next, unlock-next, local-next}
@@ -28,15 +29,11 @@ returns-in-4 c =
 
 pub returns-in-5 : goal.returns-in-5
 unfolding among step_uses
-returns-in-5 c =
-    lock-next c.args.cells.now c.args.locations.now c.args.values.now c.args.marks.now c.args.i c.args.e _ c.requires.proper c.requires.log.part.processor c.requires.own
-    c.requires.has_marks _ c.in-5.is (bare c.args.e c.requires.proper 5 c.in-5.is refl refl) c.lock.ensures
+returns-in-5 c = let b = bare c.args.e c.requires.proper 5 c.in-5.is refl refl in search (rules, lock-next)
 
 pub returns-in-6 : goal.returns-in-6
 unfolding among step_uses
-returns-in-6 c =
-    unlock-next c.args.cells.now c.args.locations.now c.args.values.now c.args.marks.now c.args.i c.args.e _ c.requires.proper c.requires.log.part.processor c.requires.own
-    c.requires.has_marks _ c.in-6.is (bare c.args.e c.requires.proper 6 c.in-6.is refl refl) c.unlock.ensures
+returns-in-6 c = let b = bare c.args.e c.requires.proper 6 c.in-6.is refl refl in search (rules, unlock-next)
 
 pub returns-in_default : goal.returns-in_default
 unfolding among step_uses

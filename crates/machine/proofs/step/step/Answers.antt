@@ -1,9 +1,8 @@
 use native.Mathlib.Omega.{arith}
-use mathlib.Core.Path.{◌≡◌, sym, ◌∙◌}
+use mathlib.Core.Path.{sym, ◌∙◌}
 use Prim.Native.Nat.{◌<◌, ◌≤◌}
 use lib.ListN.{get_or}
-use Rattle.machine_rules.specs.Steps.{step_kind}
-use Rattle.machine_state.specs.Packed.{stands_at, phase_at, counts_in}
+use Rattle.machine_state.specs.Packed.{stands_at, counts_in}
 use Rattle.model.proofs.Events.{low-processor}
 use Rattle.machine.proofs.Taking.{can-drain, drains-it, at-the-end, below, known-kind, another, may-take, onwards, takes-it, turns-it}
 use Rattle.machine.proofs.step.step.Goals as goal
