@@ -53,7 +53,8 @@ module _ (cells locations values marks : List ℕ) where
     received_is v = go (acts_of i.kind).loads
       where
         go : (b : Bool) → state_in (cond b (set cells (register_of i) v) (set cells (kept_at i.processor) v)) locations values marks
-            ≡ parts (cond b (set (registers_in cells) (register_of i) v) (registers_in cells)) (memory_in cells) (cond b (kept_in cells) (set (kept_in cells) i.processor v)) (at_in marks) (phase_in marks) locations values (issued_in marks) (drained_in marks) (holder_in marks) (own_in marks) (free_in marks)
+            ≡ parts (cond b (set (registers_in cells) (register_of i) v) (registers_in cells)) (memory_in cells) (cond b (kept_in cells) (set (kept_in cells) i.processor v))
+            (at_in marks) (phase_in marks) locations values (issued_in marks) (drained_in marks) (holder_in marks) (own_in marks) (free_in marks)
         go true = assigned-is v
         go false =
             let c = r.kept_set cells v i.processor o.processor in

@@ -31,15 +31,22 @@ note-requires c =
 pub returns-in-Wrong : goal.returns-in-Wrong
 returns-in-Wrong c =
     let twelve : length c.advance-left.result ≡ 12 = search rules in
-    let rd = c.loop-alive.invariant.0 c.args.place c.mark_in-mark.ensures c.flags_in-alive.ensures c.blank_in-r.ensures in
-    (record { says = turn-wrong _ _ _ _ _ _ _ _ _ rd _ c.next_token-next.ensures.0 c.if-text-from.false _ _ _ c.mark_in-mark.ensures c.loop-alive.invariant.5 twelve c.advance-left.ensures c.first_alive-j.ensures c.if-j-ge-COUNT.false _ c.code_at.ensures _ c.note.ensures.notes c.in-Wrong.is; further = tt }, c.note.ensures.letters_le_locations)
+    let rd = c.loop-alive.invariant.0 c.args.place c.mark_in-mark.ensures c.flags_in-alive.ensures c.blank_in-r.ensures in (
+      record {
+        says = turn-wrong _ _ _ _ _ _ _ _ _ rd _ c.next_token-next.ensures.0 c.if-text-from.false _ _ _ c.mark_in-mark.ensures c.loop-alive.invariant.5 twelve c.advance-left.ensures
+            c.first_alive-j.ensures c.if-j-ge-COUNT.false _ c.code_at.ensures _ c.note.ensures.notes c.in-Wrong.is;
+        further = tt;
+      },
+      c.note.ensures.letters_le_locations,
+    )
 
 pub returns-then-i-j : goal.returns-then-i-j
 returns-then-i-j c =
     let twelve : length c.advance-left.result ≡ 12 = search rules in
     let rd = c.loop-alive.invariant.0 c.args.place c.mark_in-mark.ensures c.flags_in-alive.ensures c.blank_in-r.ensures in (
       record {
-        says = turn-closed _ _ _ _ _ _ _ _ _ rd _ c.next_token-next.ensures.0 c.if-text-from.false _ _ _ c.mark_in-mark.ensures c.loop-alive.invariant.5 twelve c.advance-left.ensures c.first_alive-j.ensures c.if-j-ge-COUNT.false _ c.code_at.ensures _ _ c.note.ensures.notes c.in-Well.is c.if-i-j.true refl;
+        says = turn-closed _ _ _ _ _ _ _ _ _ rd _ c.next_token-next.ensures.0 c.if-text-from.false _ _ _ c.mark_in-mark.ensures c.loop-alive.invariant.5 twelve c.advance-left.ensures
+            c.first_alive-j.ensures c.if-j-ge-COUNT.false _ c.code_at.ensures _ _ c.note.ensures.notes c.in-Well.is c.if-i-j.true refl;
         further = (let p = turn-past _ _ _ _ _ _ _ _ _ rd _ c.next_token-next.ensures.0 c.if-text-from.false _ _ _ c.mark_in-mark.ensures c.loop-alive.invariant.5 twelve c.advance-left.ensures c.first_alive-j.ensures in omega arith, c.next_token-next.ensures.3);
       },
       c.note.ensures.letters_le_locations,
@@ -57,7 +64,8 @@ loop-alive-preserved c =
     let twelve : length c.advance-left.result ≡ 12 = search rules in
     let rd = c.loop-alive.invariant.0 c.args.place c.mark_in-mark.ensures c.flags_in-alive.ensures c.blank_in-r.ensures in (
       λ place mk al bl.
-          rw add-one (turn_on _ _ _ _ _ _ _ _ _ (c.loop-alive.invariant.0 place mk al bl) _ c.next_token-next.ensures.0 c.if-text-from.false _ _ _ mk c.loop-alive.invariant.5 twelve c.advance-left.ensures c.first_alive-j.ensures c.if-j-ge-COUNT.false _ c.code_at.ensures _ c.note.ensures.notes c.in-Well.is c.if-i-j.false),
+          rw add-one (turn_on _ _ _ _ _ _ _ _ _ (c.loop-alive.invariant.0 place mk al bl) _ c.next_token-next.ensures.0 c.if-text-from.false _ _ _ mk c.loop-alive.invariant.5 twelve c.advance-left.ensures
+          c.first_alive-j.ensures c.if-j-ge-COUNT.false _ c.code_at.ensures _ c.note.ensures.notes c.in-Well.is c.if-i-j.false),
       turn-shorter _ _ _ _ _ _ _ _ _ rd _ c.next_token-next.ensures.0 c.if-text-from.false _ _ _ c.mark_in-mark.ensures c.loop-alive.invariant.5 twelve c.advance-left.ensures c.first_alive-j.ensures c.if-j-ge-COUNT.false _ c.code_at.ensures c.if-i-j.false,
       c.note.ensures.letters_le_locations,
       omega arith,

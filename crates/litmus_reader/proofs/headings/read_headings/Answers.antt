@@ -24,14 +24,19 @@ returns-then-n-eq-PROCESSORS c =
 pub returns-then-is_mark : goal.returns-then-is_mark
 returns-then-is_mark c =
     record {
-      says = λ seen rs. c.loop-at.invariant.0 seen rs ∙ rw add-one (heading-on _ _ _ _ seen rs c.next_token-next.ensures.0 (sym c.is_heading.ensures ∙ c.if-not-is_heading.false) (below _ c.loop-at.invariant.1 c.if-n-eq-PROCESSORS.false) ∙ semicolon-on _ _ _ _ seen rs c.next_token-mark.ensures.0 (sym c.is_mark.ensures ∙ c.if-is_mark.true));
+      says = λ seen rs. c.loop-at.invariant.0 seen rs ∙ rw add-one (heading-on _ _ _ _ seen rs c.next_token-next.ensures.0 (sym c.is_heading.ensures ∙ c.if-not-is_heading.false) (below _ c.loop-at.invariant.1 c.if-n-eq-PROCESSORS.false)
+          ∙ semicolon-on _ _ _ _ seen rs c.next_token-mark.ensures.0 (sym c.is_mark.ensures ∙ c.if-is_mark.true));
       further = (omega arith, c.next_token-mark.ensures.3, omega arith, omega (arith, c.if-n-eq-PROCESSORS.false));
     }
 
 pub returns-then-not-is_mark : goal.returns-then-not-is_mark
 returns-then-not-is_mark c =
     let h = sym c.is_heading.ensures ∙ c.if-not-is_heading.false in
-    record { says = λ seen rs. c.loop-at.invariant.0 seen rs ∙ heading-on _ _ _ _ seen rs c.next_token-next.ensures.0 h (below _ c.loop-at.invariant.1 c.if-n-eq-PROCESSORS.false) ∙ mark-refused _ _ _ _ seen rs c.next_token-mark.ensures.0 (sym c.is_mark.ensures ∙ c.if-is_mark.false) (sym c.is_mark-in-loop-at.ensures ∙ c.if-not-is_mark.true); further = tt }
+    record {
+      says = λ seen rs. c.loop-at.invariant.0 seen rs ∙ heading-on _ _ _ _ seen rs c.next_token-next.ensures.0 h (below _ c.loop-at.invariant.1 c.if-n-eq-PROCESSORS.false)
+          ∙ mark-refused _ _ _ _ seen rs c.next_token-mark.ensures.0 (sym c.is_mark.ensures ∙ c.if-is_mark.false) (sym c.is_mark-in-loop-at.ensures ∙ c.if-not-is_mark.true);
+      further = tt;
+    }
 
 pub loop-at-smaller : goal.loop-at-smaller
 loop-at-smaller c =
@@ -39,7 +44,8 @@ loop-at-smaller c =
 
 pub loop-at-preserved : goal.loop-at-preserved
 loop-at-preserved c = (
-  λ seen rs. c.loop-at.invariant.0 seen rs ∙ rw add-one (heading-on _ _ _ _ seen rs c.next_token-next.ensures.0 (sym c.is_heading.ensures ∙ c.if-not-is_heading.false) (below _ c.loop-at.invariant.1 c.if-n-eq-PROCESSORS.false) ∙ bar-on _ _ _ _ seen rs c.next_token-mark.ensures.0 (sym c.is_mark-in-loop-at.ensures ∙ c.if-not-is_mark.false)),
+  λ seen rs. c.loop-at.invariant.0 seen rs ∙ rw add-one (heading-on _ _ _ _ seen rs c.next_token-next.ensures.0 (sym c.is_heading.ensures ∙ c.if-not-is_heading.false) (below _ c.loop-at.invariant.1 c.if-n-eq-PROCESSORS.false)
+      ∙ bar-on _ _ _ _ seen rs c.next_token-mark.ensures.0 (sym c.is_mark-in-loop-at.ensures ∙ c.if-not-is_mark.false)),
   omega (arith, c.if-n-eq-PROCESSORS.false),
   omega arith,
   c.next_token-mark.ensures.3,

@@ -3,7 +3,6 @@ use Rattle.text.proofs.Adding.{then}
 use borrow.Author.Rules.{rules}
 use Rattle.text.proofs.lines.put_finished.Goals as goal
 
--- BY-HAND: 6 answers for 5 goals
 pub returns : goal.returns
 unfolding finished_line
 returns c =

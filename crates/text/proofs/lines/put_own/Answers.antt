@@ -4,7 +4,6 @@ use Rattle.text.proofs.Adding.{then}
 use borrow.Author.Rules.{rules}
 use Rattle.text.proofs.lines.put_own.Goals as goal
 
--- BY-HAND: 8 answers for 7 goals
 pub returns : goal.returns
 unfolding own_line
 returns c =

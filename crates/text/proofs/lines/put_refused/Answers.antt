@@ -5,7 +5,6 @@ use Rattle.text.proofs.Adding.{then, said}
 use borrow.Author.Rules.{rules}
 use Rattle.text.proofs.lines.put_refused.Goals as goal
 
--- BY-HAND: 10 answers for 8 goals
 pub returns : goal.returns
 unfolding refused_line
 returns c =

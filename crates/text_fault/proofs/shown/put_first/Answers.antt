@@ -3,7 +3,6 @@ use Rattle.text.proofs.Adding.{then}
 use Rattle.text_fault.specs.Shown.{fault_line}
 use Rattle.text_fault.proofs.shown.put_first.Goals as goal
 
--- BY-HAND: 9 answers for 7 goals
 pub returns : goal.returns
 unfolding fault_line
 returns c =

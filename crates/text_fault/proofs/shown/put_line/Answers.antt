@@ -3,7 +3,6 @@ use Rattle.text.proofs.Adding.{then}
 use Rattle.text_fault.specs.Shown.{shown_line}
 use Rattle.text_fault.proofs.shown.put_line.Goals as goal
 
--- BY-HAND: 6 answers for 5 goals
 pub returns : goal.returns
 unfolding shown_line
 returns c =

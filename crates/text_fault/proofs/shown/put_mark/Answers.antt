@@ -3,7 +3,6 @@ use Rattle.text.proofs.Adding.{then}
 use Rattle.text_fault.specs.Shown.{mark_line}
 use Rattle.text_fault.proofs.shown.put_mark.Goals as goal
 
--- BY-HAND: 7 answers for 5 goals
 pub returns : goal.returns
 unfolding mark_line
 returns c =

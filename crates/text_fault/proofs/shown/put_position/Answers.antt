@@ -3,7 +3,6 @@ use Rattle.text.proofs.Adding.{then}
 use Rattle.text_fault.specs.Shown.{position_words}
 use Rattle.text_fault.proofs.shown.put_position.Goals as goal
 
--- BY-HAND: 9 answers for 7 goals
 pub returns : goal.returns
 unfolding position_words
 returns c =
