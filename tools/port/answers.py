@@ -281,7 +281,7 @@ def turn(crate, f, names):
     uses, rest = [], []
     for l in text.split("\n"):
         (uses if l.startswith("use ") else rest).append(l)
-    uses = [u for u in uses if not re.search(r"\.(Statement|Tie|Lts|Reads|Code)(\.\{statement\}| as | *$)", u) or "Statement" in u and False]
+    uses = [u for u in uses if not re.search(r"\.(Statement|Tie|Lts|Reads|Code)(\.\{statement\}| as | *$)", u)]
     inv, ans, marks = [], [], []
     spec = None
     loops = [l[0] for l in names.loops]
@@ -372,8 +372,7 @@ def turn(crate, f, names):
                 new, at = names.needs[n]
                 inline.append(("", f"pub {new} : goal.{new}\n" + record_of(f"{new} c = " + turn_body(body, names, at, marks), names.labels(new))))
     write(folder, "Invariants.antt", uses, inv, f"use {module}.Given as goal", [])
-    helpers = [m for m in marks]
-    write(folder, "Answers.antt", uses, ans + inline, f"use {module}.Goals as goal", helpers)
+    write(folder, "Answers.antt", uses, ans + inline, f"use {module}.Goals as goal", marks)
     old = f"/tmp/old/{crate}/" + "/".join(rel)
     os.makedirs(old, exist_ok=True)
     os.rename(f, old + "/Proof.antt")

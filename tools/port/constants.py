@@ -14,9 +14,9 @@ def plain(m):
 
 for f in sorted(glob.glob("crates/*/src/**/*.rt", recursive=True)):
     with open(f, encoding="utf-8") as it:
-        text = it.read()
-    text = re.sub(r"⟦((?:\w+::)*\w+)⟧", lambda m: m.group(1).replace("::", "."), text)
+        old = it.read()
+    text = re.sub(r"⟦((?:\w+::)*\w+)⟧", lambda m: m.group(1).replace("::", "."), old)
     new = CLAUSE.sub(plain, text)
-    if new:
+    if new != old:
         with open(f, "w", encoding="utf-8") as it:
             it.write(new)
