@@ -1,7 +1,6 @@
 -- The reply that a C answer and the lent room make.
 use Rattle.std.specs.Prelude.{◌≡◌, List, ℕ}
-use Rattle.model.specs.declared.answer.Answer.{Answer}
-use Rattle.model.specs.Reply.{Reply, reply_of}
+use Rattle.model.specs.Reply.{Reply, Answer, reply_of}
 use Rattle.ambercell.specs.declared.CAnswer.{CAnswer}
 
 abbrev pub reply_in : CAnswer → List ℕ → Reply

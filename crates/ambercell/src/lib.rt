@@ -8,45 +8,46 @@ ghost use Rattle.ambercell.specs.Replies.{reply_in, Tells};
 
 use checker::{check, finish};
 use model::answer::Answer;
-use model::number::number;
 
 // Document 01's number and place.
 #[repr(C)]
-#[derive(Drop)]
+#[derive(Clone, Copy)]
 pub struct CAnswer {
     pub number: u64,
     pub place: u64,
 }
 
-fn numbered(answer: Answer) -> CAnswer
-    ensures { Tells result answer }
-{
-    match answer {
-        Answer::Done(steps) => CAnswer {
-            number: 0,
-            place: steps as u64,
-        },
-        Answer::Refused(why, place) => CAnswer {
-            number: number(why),
-            place: place as u64,
-        },
+impl From<Answer> for CAnswer {
+    ghost from_gives = { λ answer c. Tells c answer };
+
+    fn from(answer: Answer) -> CAnswer {
+        match answer {
+            Ok(place) => CAnswer {
+                number: 0,
+                place: place as u64,
+            },
+            Err(refused) => CAnswer {
+                number: u64::from(refused.why),
+                place: refused.place as u64,
+            },
+        }
     }
 }
 
 pub fn ambercell_check(table: &[u8], trace: &[u8], room: &mut [u32]) -> CAnswer
     ensures { reply_in result room.new ≡ checked table.now trace.now room.old }
 {
-    numbered(check::check(table, trace, room))
+    CAnswer::from(check::check(table, trace, room))
 }
 
 pub fn ambercell_finish(table: &[u8], trace: &[u8], room: &mut [u8]) -> CAnswer
     ensures { reply_in result room.new ≡ completed table.now trace.now room.old }
 {
-    numbered(finish::finish(table, trace, room))
+    CAnswer::from(finish::finish(table, trace, room))
 }
 
 pub fn ambercell_litmus(text: &[u8], room: &mut [u8]) -> CAnswer
     ensures { reply_in result room.new ≡ imported text.now room.old }
 {
-    numbered(litmus::litmus::litmus(text, room))
+    CAnswer::from(litmus::litmus::litmus(text, room))
 }

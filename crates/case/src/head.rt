@@ -1,16 +1,17 @@
 // The head of a case: which call, and the bytes of its table, its trace and its room. A litmus text stands in the table's place.
-ghost use Rattle.std.specs.Prelude.{◌≡◌, length};
-ghost use Rattle.case.specs.Parts.{Fits, no_head, head_in};
+ghost use Rattle.std.specs.Prelude.{◌≡◌, ◌+◌, ◌≤◌, length, IfOk};
+ghost use Rattle.model.specs.Record.{value_at};
+ghost use Rattle.case.specs.Parts.{Fits, head_in, length_in};
 
+use crate::call::{Call, NoCase};
 use record::bytes::{WORD, value_at};
 
 // The most bytes of a table, a trace or a room.
 pub const MOST: usize = 1048576;
 
-#[derive(Drop)]
+#[derive(Clone, Copy)]
 pub struct Head {
-    pub whole: bool,
-    pub call: u32,
+    pub call: Call,
     pub table: usize,
     pub trace: usize,
     pub room: usize,
@@ -27,43 +28,29 @@ impl Head {
     const ROOM: usize = Self::TRACE + WORD;
 
     pub const BYTES: usize = Self::ROOM + WORD;
-
-    pub const FINISH: u32 = 1;
-
-    pub const LITMUS: u32 = 2;
-
-    // Of no case.
-    pub fn none() -> Head
-        ensures value { result ≡ no_head }
-        ensures fits { Fits MOST result }
-    {
-        Head {
-            whole: false,
-            call: 0,
-            table: 0,
-            trace: 0,
-            room: 0,
-        }
-    }
 }
 
-pub fn head_of(bytes: &[u8]) -> Head
-    requires { length bytes.now ≡ Head.BYTES }
-    ensures result_value { result ≡ head_in Head.LITMUS MOST bytes.now }
-    ensures fits { Fits MOST result }
+fn length_at(bytes: &[u8], at: usize) -> Result<usize, NoCase>
+    requires { at + WORD ≤ length bytes.now }
+    ensures { result ≡ length_in MOST (value_at bytes.now at) }
 {
-    let call = value_at(bytes, Head::CALL);
-    let table = value_at(bytes, Head::TABLE) as usize;
-    let trace = value_at(bytes, Head::TRACE) as usize;
-    let room = value_at(bytes, Head::ROOM) as usize;
-    if (call <= Head::LITMUS) & (table <= MOST) & (trace <= MOST) & (room <= MOST) {
-        return Head {
-            whole: true,
-            call: call,
-            table: table,
-            trace: trace,
-            room: room,
-        };
-    }
-    Head::none()
+    let n = value_at(bytes, at) as usize;
+    if n <= MOST { Ok(n) } else { Err(NoCase) }
+}
+
+pub fn head_of(bytes: &[u8]) -> Result<Head, NoCase>
+    requires { length bytes.now ≡ Head.BYTES }
+    ensures result_value { result ≡ head_in MOST bytes.now }
+    ensures fits { IfOk result (Fits MOST) }
+{
+    let call = Call::try_from(value_at(bytes, Head::CALL))?;
+    let table = length_at(bytes, Head::TABLE)?;
+    let trace = length_at(bytes, Head::TRACE)?;
+    let room = length_at(bytes, Head::ROOM)?;
+    Ok(Head {
+        call,
+        table,
+        trace,
+        room,
+    })
 }

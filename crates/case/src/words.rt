@@ -9,7 +9,7 @@ pub const LONG: usize = WORD + WORD;
 
 const SECOND: u64 = 4294967296;
 
-// The bytes from `at` on become those of v.
+// The bytes from `at` on become those of v. Stays in two words: `with_long` says it so, and each is put as any value is.
 pub fn put_long(bytes: &mut [u8], at: usize, v: u64)
     requires { at + LONG ≤ length bytes.old }
     ensures { bytes.new ≡ with_long bytes.old at v }
@@ -23,10 +23,8 @@ pub fn read_words(words: &mut [u32], bytes: &[u8])
     requires { length words.old * WORD ≤ length bytes.now }
     ensures { words.new ≡ words_in bytes.now (length words.old) }
 {
-    let mut i: usize = 0;
-    while i < words.len() {
-        words[i] = value_at(bytes, i * WORD);
-        i += 1;
+    for (i, word) in words.iter_mut().enumerate() {
+        *word = value_at(bytes, i * WORD);
     }
 }
 
@@ -35,9 +33,7 @@ pub fn write_words(bytes: &mut [u8], words: &[u32])
     requires { length words.now * WORD ≤ length bytes.old }
     ensures { bytes.new ≡ bytes_in words.now ++ drop (length words.now * WORD) bytes.old }
 {
-    let mut i: usize = 0;
-    while i < words.len() {
-        put_value(bytes, i * WORD, words[i]);
-        i += 1;
+    for (i, word) in words.iter().enumerate() {
+        put_value(bytes, i * WORD, *word);
     }
 }

@@ -3,8 +3,7 @@
 use mathlib.Core.Path.{◌≡◌}
 use mathlib.Core.List.{List}
 use Prim.Native.Nat.{ℕ}
-use Rattle.model.specs.declared.answer.Answer.{Answer}
-use Rattle.model.specs.Reply.{reply_of}
+use Rattle.model.specs.Reply.{Answer, reply_of}
 use Rattle.model.specs.Calls.{checked, completed}
 use Rattle.model.specs.Promises.{CheckMeets, FinishMeets}
 use Rattle.model.proofs.Demands.{check-meets}

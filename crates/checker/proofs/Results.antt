@@ -2,8 +2,7 @@
 use mathlib.Core.Path.{◌≡◌, sym, ap, ◌∙◌}
 use mathlib.Core.List.{List}
 use Prim.Native.Nat.{ℕ}
-use Rattle.model.specs.declared.answer.Verdict.{Verdict}
-use Rattle.model.specs.declared.answer.Verdict.TheVariants.{Passed, Refused}
+use Rattle.std.specs.Prelude.{Ok, Err}
 use Rattle.model.specs.Record.{records}
 use Rattle.model.specs.Machine as model
 use Rattle.model.specs.Kinds.{Entry}
@@ -12,7 +11,7 @@ use Rattle.model.specs.Tests.{Tested, passed, refused, and_then}
 use Rattle.model.specs.Reading.{reading}
 use Rattle.model.specs.Reply.{Reply, number_of}
 use Rattle.model.specs.Calls.{Reached, reached, following, tried, replied, checked_at, checked, completed_at, completed}
-use Rattle.model.specs.Code.{Columns, tested_of}
+use Rattle.model.specs.Code.{Columns, Verdict, tested_of}
 use Rattle.model.proofs.Tests.{passed-inj, passed-refused}
 use Rattle.model.proofs.Runs.{reached-orderly}
 use Rattle.model.proofs.Numbers.{tried-ends}
@@ -26,10 +25,10 @@ use Rattle.table.specs.Begins.{Begins}
 from_start : (t : Tested (List Entry)) (v : Verdict) (s : model.Machine) (f : Reached → Tested Reached)
     → tested_of v s ≡ and_then t (λ entries. passed (start entries)) → and_then (tested_of v (reached s 0)) f ≡ and_then t (λ entries. f (reached (start entries) 0))
 unfolding and_then
-from_start (passed entries) Passed s f h = ap (λ (s : model.Machine). f (reached s 0)) (passed-inj h)
-from_start (passed entries) (Refused why place) s f h = passed-refused (sym h)
-from_start (refused n i) Passed s f h = passed-refused h
-from_start (refused n i) (Refused why place) s f h = let a : number_of why ≡ n = cc in let b : place ≡ i = cc in λ j. refused (a j) (b j)
+from_start (passed entries) (Ok u) s f h = ap (λ (s : model.Machine). f (reached s 0)) (passed-inj h)
+from_start (passed entries) (Err r) s f h = passed-refused (sym h)
+from_start (refused n i) (Ok u) s f h = passed-refused h
+from_start (refused n i) (Err r) s f h = let a : number_of r.why ≡ n = cc in let b : r.place ≡ i = cc in λ j. refused (a j) (b j)
 
 module _ (table trace : List ℕ) (read : Verdict) (g : Columns) (s : State) (begins : Begins table read g s) (end : Verdict) (m : State) (follows : Follows g s read trace end m) where
   leads : tested_of end (reached_of g m) ≡ tried table trace
@@ -51,7 +50,7 @@ module _ (table trace : List ℕ) (read : Verdict) (g : Columns) (s : State) (be
     finishes e = replies (completed_at room) e
 
   -- a state that a run reaches
-  pub underway : end ≡ Passed → Underway g m
+  pub underway : end ≡ Ok tt → Underway g m
   underway e =
       let f = (tried-ends table trace (reached_of g m) (sym leads ∙ ap (λ (v : Verdict). tested_of v (reached_of g m)) e)).follows in
       record { ready = follows.ready; orderly = reached-orderly f.entries (records trace) (machine_of g m) f.run }

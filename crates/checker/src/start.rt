@@ -1,32 +1,26 @@
-// Where a call begins: no program, and a machine at its start.
+// Where a call begins: a machine at its start.
 ghost use Rattle.std.specs.Prelude.{◌≡◌};
-ghost use Rattle.machine_state.specs.Packed.{state_of, columns_of};
 ghost use Rattle.machine.specs.Arrays.{start_in};
-ghost use Rattle.table.specs.Reads.{no_program, no_cells};
+ghost use Rattle.table.specs.Reads.{no_cells};
 
-use machine_rules::guards::NOBODY;
 use machine_state::state::Machine;
-use model::table::Program;
-
-pub fn no_program() -> Program
-    ensures { columns_of result ≡ no_program }
-{
-    Program {
-        codes: [0u8; Program::CODES],
-        constants: [Program::UNREAD; Program::PLACES],
-    }
-}
+use model::table::{Cells, Program};
 
 // All cells zero, nothing taken, nothing waiting, the lock free.
 pub fn at_start() -> Machine
-    ensures { state_of result ≡ start_in no_cells }
+    ensures { result ≡ start_in no_cells }
 {
-    let mut marks = [0usize; Machine::MARKS];
-    marks[Machine::HOLDER] = NOBODY;
     Machine {
-        marks: marks,
+        at: [0; Program::PROCESSORS],
+        phase: [0; Program::PROCESSORS],
+        issued: [0; Program::PROCESSORS],
+        drained: [0; Program::PROCESSORS],
+        holder: None,
+        own: 0,
         values: [Program::UNREAD; Program::PLACES],
-        cells: [0u32; Machine::CELLS],
-        locations: [0u8; Program::PLACES],
+        registers: [0; Cells::ALL_REGISTERS],
+        memory: [0; Cells::LOCATIONS],
+        kept: [0; Program::PROCESSORS],
+        locations: [0; Program::PLACES],
     }
 }

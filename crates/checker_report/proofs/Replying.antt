@@ -1,53 +1,56 @@
--- What is replied of a ready state: it is the machine's.
-use mathlib.Core.Path.{◌≡◌, refl, sym, ap, ◌∙◌}
+-- The reply to a check, of a ready state: the verdict, 12, 13, or the result.
+use mathlib.Core.Path.{◌≡◌, sym, ap, ◌∙◌}
 use mathlib.Core.Bool.{Bool, true, false}
-use mathlib.Core.List.{List}
-use Prim.Native.Nat.{ℕ, ◌≤◌}
+use mathlib.Core.List.{List, [], ◌∷◌, ◌++◌, append_assoc}
+use Prim.Native.Nat.{ℕ, ◌/◌, ◌≤◌, ◌<◌}
 use native.Mathlib.Omega.{arith}
-use lib.ListN.{length, drop, length-drop}
-use lib.Seq.{take_all}
-use lib.Dec.{ltb, lit≤}
-use borrow.Author.Tests.{ltb-true, ltb-false}
-use Rattle.model.specs.declared.answer.Verdict.{Verdict}
-use Rattle.model.specs.declared.answer.Verdict.TheVariants.{Passed, Refused}
-use Rattle.model.specs.Sizes.{outcome_cells}
-use Rattle.model.specs.Reply.{words}
-use Rattle.model.specs.Calls.{Reached, replied, reported, checked_at}
-use Rattle.model.specs.Code.{tested_of}
+use lib.ListN.{length, set, take, drop, get_or, length-append}
+use lib.Seq.{take_at, drop_at, drop-drop, drop-cons, set-append_seam}
+use Rattle.std.specs.Prelude.{Ok, Err}
+use Rattle.model.specs.declared.answer.Refused.{Refused}
+use Rattle.model.specs.Reply.{Reply, done, refuse, number_of, words}
+use Rattle.model.specs.Calls.{replied, reported, checked_at}
+use Rattle.model.specs.Code.{Columns, Verdict, tested_of}
 use Rattle.model.proofs.Bytes.{length-records}
-use Rattle.model.proofs.Rows.{slices}
-use Rattle.machine_state.specs.Packed.{state_in, columns_in}
+use Rattle.model.proofs.Replies.{written-fits, written-not}
+use Rattle.machine_state.specs.State.{State}
+use Rattle.machine_state.specs.Finished.{finished_in}
 use Rattle.machine.specs.View.{reached_of}
 use Rattle.machine.specs.Ready.{Ready}
 use Rattle.machine.proofs.Ends.{finished-is, outcome-is}
-use Rattle.checker_report.specs.Reports.{Reportable, reported_in, replied_in}
 
-module _ (codes constants cells locations values marks : List ℕ) (ready : Ready (columns_in codes constants) (state_in cells locations values marks)) where
-  abbrev c : Reached
-  c = reached_of (columns_in codes constants) (state_in cells locations values marks)
+-- the three writes of the code: the registers, memory behind them, and one word more
+filled : (registers memory room : List ℕ) (own : ℕ) → length registers ≡ 16 → length memory ≡ 8 → 25 ≤ length room
+    → set (take 16 (registers ++ drop 16 room) ++ (memory ++ drop 8 (drop 16 (registers ++ drop 16 room)))) 24 own ≡ ((registers ++ memory) ++ (own ∷ [])) ++ drop 25 room
+filled registers memory room own a b l =
+    let words : length (registers ++ memory) ≡ 24 = simp length-append (omega arith) in
+    let behind : drop 24 room ≡ get_or room 24 0 ∷ drop 25 room = drop-cons room 24 0 (omega arith) in
+    let rest : drop 8 (drop 16 (registers ++ drop 16 room)) ≡ drop 24 room = ap (drop 8) (drop_at registers (drop 16 room) 16 a) ∙ drop-drop 8 16 room in
+    rw (take_at registers (drop 16 room) 16 a, rest, ← append_assoc registers memory (drop 24 room), behind)
+    ((λ j. set ((registers ++ memory) ++ get_or room 24 0 ∷ drop 25 room) (sym words j) own)
+    ∙ set-append_seam (registers ++ memory) (get_or room 24 0) (drop 25 room) own ∙ sym (append_assoc (registers ++ memory) (own ∷ []) (drop 25 room)))
 
-  -- the kept values stand behind the outcome
-  cells-long : outcome_cells ≤ length cells
-  unfolding state_in
-  cells-long = go (ltb (length cells) outcome_cells) refl
-    where
-      go : (b : Bool) → ltb (length cells) outcome_cells ≡ b → outcome_cells ≤ length cells
-      go true e =
-          let l = ltb-true (length cells) outcome_cells e in
-          let k : length (drop 24 cells) ≡ 4 = ap (λ (m : List ℕ). length (drop 24 m)) (sym (take_all 28 cells (omega arith))) ∙ ready.long.kept in
-          let d = length-drop 24 cells in
-          absurd (omega arith)
-      go false e = ltb-false (length cells) outcome_cells e
+module _ (g : Columns) (m : State) (ready : Ready g m) (end : Verdict) (trace room : List ℕ) where
+  abbrev told : Reply
+  told = replied room (tested_of end (reached_of g m)) (checked_at trace room)
 
-  pub reportable : Reportable cells marks
-  unfolding state_in
-  reportable = record { long = cells-long; low = omega (arith, ready.counts) }
+  pub refused-already : (r : Refused) → end ≡ Err r → refuse (number_of r.why) r.place room ≡ told
+  unfolding replied
+  refused-already r p = rw p
 
-  reported-is : (steps : ℕ) (room : List ℕ) → reported_in codes cells marks steps room ≡ reported steps room c
-  unfolding reported_in reported words state_in columns_in
-  reported-is steps room = rw (sym (finished-is _ _ ready), outcome-is _ _ ready, slices 16 24 cells (lit≤ tt))
+  -- the trace passed, and f is whether the machine is finished
+  module _ (p : end ≡ Ok tt) (f : Bool) (finished : f ≡ finished_in g m) where
+    pub unfinished : f ≡ false → refuse 12 (length trace / 8) room ≡ told
+    unfolding replied checked_at reported
+    unfinished n = rw (p, ← finished-is g m ready, ← finished, n, length-records trace)
 
-  pub replied-is : (end : Verdict) (trace room : List ℕ) → replied_in codes cells marks end trace room ≡ replied room (tested_of end c) (checked_at trace room)
-  unfolding replied_in replied checked_at
-  replied-is Passed trace room = reported-is _ room ∙ rw (length-records trace)
-  replied-is (Refused why place) trace room = refl
+    pub too_small : f ≡ true → length room < 25 → refuse 13 25 room ≡ told
+    unfolding replied checked_at reported
+    too_small n l = rw (p, ← finished-is g m ready, ← finished, n) (sym (written-not _ 25 _ room l))
+
+    pub reports : f ≡ true → 25 ≤ length room
+        → done (length trace / 8) (set (take 16 (m.registers ++ drop 16 room) ++ (m.memory ++ drop 8 (drop 16 (m.registers ++ drop 16 room)))) 24 m.own) ≡ told
+    unfolding replied checked_at reported words
+    reports n l =
+        rw (p, ← finished-is g m ready, ← finished, n, outcome-is g m ready, length-records trace)
+        (rw (filled m.registers m.memory room m.own ready.long.registers ready.long.memory l) (sym (written-fits (length trace / 8) 25 ((m.registers ++ m.memory) ++ (m.own ∷ [])) room l)))

@@ -3,37 +3,16 @@ ghost use Rattle.std.specs.Prelude.{◌≡◌};
 ghost use Rattle.model.specs.Calls.{replied, checked_at};
 ghost use Rattle.model.specs.Code.{tested_of};
 ghost use Rattle.model.specs.Reply.{reply_of};
-ghost use Rattle.machine_state.specs.Packed.{state_of, columns_of};
 ghost use Rattle.machine.specs.View.{reached_of};
 ghost use Rattle.machine.specs.Ready.{Ready};
-ghost use Rattle.checker_report.specs.Reports.{Reportable, replied_in};
 
-use crate::report;
+use machine_state::finished;
 use machine_state::state::Machine;
-use model::answer::{Answer, Verdict};
+use model::answer::{Answer, Refusal, Verdict};
 use model::record::Record;
-use model::table::Program;
+use model::table::{Cells, Program};
 
-// What `reply_in_place` does, on the arrays.
-fn reply_parts<'a>(
-    codes: &'a [u8; Program::CODES],
-    marks: &'a [usize; Machine::MARKS],
-    cells: &'a [u32; Machine::CELLS],
-    end: Verdict,
-    trace: &[u8],
-    room: &mut [u32],
-) -> Answer
-    requires { Reportable cells.now marks.now }
-    ensures { reply_of result room.new
-        ≡ replied_in codes.now cells.now marks.now end trace.now room.old }
-{
-    match end {
-        Verdict::Refused(why, place) => Answer::Refused(why, place),
-        Verdict::Passed => report::report(codes, cells, marks, trace.len() / Record::BYTES, room),
-    }
-}
-
-// The answer to a check whose trace has this verdict, and leads to this machine if it passed.
+// The answer to a check whose trace has this verdict, and leads to this machine if it passed: then 12, 13, or the result.
 pub fn reply_in_place(
     program: &Program,
     m: &Machine,
@@ -41,10 +20,19 @@ pub fn reply_in_place(
     trace: &[u8],
     room: &mut [u32],
 ) -> Answer
-    requires { Ready (columns_of program.now) (state_of m.now) }
-    ensures { reply_of result room.new ≡ replied room.old
-        (tested_of end (reached_of (columns_of program.now) (state_of m.now)))
-        (checked_at trace.now room.old) }
+    requires { Ready program.now m.now }
+    ensures { reply_of result room.new ≡ replied room.old (tested_of end (reached_of program.now m.now)) (checked_at trace.now room.old) }
 {
-    reply_parts(&program.codes, &m.marks, &m.cells, end, trace, room)
+    end?;
+    let steps = trace.len() / Record::BYTES;
+    if !finished::is_finished(program, m) {
+        return Err(Refusal::Unfinished.at(steps));
+    }
+    if room.len() < Cells::RESULT {
+        return Err(Refusal::RoomTooSmall.at(Cells::RESULT));
+    }
+    room[..Cells::ALL_REGISTERS].copy_from_slice(&m.registers);
+    room[Cells::ALL_REGISTERS..Cells::ALL].copy_from_slice(&m.memory);
+    room[Cells::ALL] = m.own as u32;
+    Ok(steps)
 }

@@ -1,4 +1,4 @@
--- k by the lists, processor by processor; and that it is the model's.
+-- k, processor by processor; and that it is the model's.
 use mathlib.Core.Path.{◌≡◌, refl, sym, ap, ◌∙◌}
 use mathlib.Core.List.{List, [], ◌∷◌, ◌++◌, map, map-append}
 use Prim.Native.Nat.{ℕ, zero, suc, ◌+◌, ◌-◌, ◌*◌, ◌≤◌, ◌<◌}
@@ -29,34 +29,30 @@ use Rattle.finish_left.proofs.Weights.{steps-weight}
 
 -- ---- the sum over the processors
 
-module _ (kinds counts at phase issued drained : List ℕ) where
+module _ (g : Columns) (m : State) where
   -- k is the sum over those below p
   pub record Summed (k p : ℕ) : Type 0 where
-    pub inside : p ≤ processors
-    pub sum : k ≡ left_of_first kinds counts at phase issued drained p
+    pub sum : k ≡ left_of_first g m p
     pub small : k ≤ p * (heaviest + instructions_each)
 
   pub begins : Summed 0 0
   unfolding left_of_first
-  begins = record { inside = omega arith; sum = refl; small = omega arith }
+  begins = record { sum = refl; small = omega arith }
 
   module _ (k p : ℕ) (s : Summed k p) where
-    pub ends : processors ≤ p → (k ≡ left_in kinds counts at phase issued drained) × (k ≤ processors * (heaviest + instructions_each))
-    ends l = let i = s.inside in let z : p ≡ processors = omega arith in (rw z at s.sum, rw z at s.small)
+    pub ends : p ≡ processors → (k ≡ left_in g m) × (k ≤ processors * (heaviest + instructions_each))
+    ends z = (rw z at s.sum, rw z at s.small)
 
     -- w is k of processor p's program
-    module _ (asks : CountableAt kinds counts at phase issued drained p) (l : p < processors) (w : ℕ) (is : (w ≡ program_left kinds p (get_or counts p 0) (get_or at p 0) (get_or phase p 0)) × (w ≤ heaviest)) where
-      abbrev own : ℕ
-      own = w + (get_or issued p 0 - get_or drained p 0)
-
-      pub goes_on : Summed (k + own) (p + 1)
+    module _ (asks : CountableAt g m p) (w : ℕ) (is : (w ≡ program_left g.kinds p (count_in g p) (get_or m.at p 0) (get_or m.phase p 0)) × (w ≤ heaviest)) where
+      pub goes_on : Summed (k + (w + (get_or m.issued p 0 - get_or m.drained p 0))) (p + 1)
       unfolding left_of_first
       goes_on =
           let few = asks.few in
           let light = is.1 in
           let e = s.sum in
           let o = s.small in
-          record { inside = omega arith; sum = let w = is.0 in rw add-one (omega arith); small = omega arith }
+          record { sum = let w = is.0 in rw add-one (omega arith); small = omega arith }
 
 -- ---- a program is the model's
 
@@ -108,7 +104,7 @@ module _ (g : Columns) (m : State) (ready : Ready g m) where
     few : n ≤ instructions_each
     few = let r = at.room in omega arith
 
-    countable : CountableAt g.kinds g.counts m.at m.phase m.issued m.drained p
+    countable : CountableAt g m p
     unfolding instruction_at
     countable = record {
       program = record {
@@ -134,13 +130,13 @@ module _ (g : Columns) (m : State) (ready : Ready g m) where
         let z : place_at p n - place_at p d ≡ n - d = omega arith in
         writes-length (part m.locations) (part m.values) (xs ∙ sym vs) ∙ xs ∙ z
 
-    processor-left : processor_left g.kinds g.counts m.at m.phase m.issued m.drained p ≡ left_of (processor_of g m p)
+    processor-left : processor_left g m p ≡ left_of (processor_of g m p)
     unfolding left_of processor_of todo_in
     processor-left = rw (waiting-length, program-left g ready.fits p h (get_or m.at p 0) (get_or m.phase p 0) at.stands.at)
 
-  pub all-countable : AllCountable g.kinds g.counts m.at m.phase m.issued m.drained
+  pub all-countable : AllCountable g m
   all-countable = record { each = countable }
 
-  pub left_is : left_in g.kinds g.counts m.at m.phase m.issued m.drained ≡ left (machine_of g m)
+  pub left_is : left_in g m ≡ left (machine_of g m)
   unfolding left_of_first left model_left_in machine_of
   left_is = omega (arith, processor-left 0 (lit< tt), processor-left 1 (lit< tt), processor-left 2 (lit< tt), processor-left 3 (lit< tt))

@@ -1,51 +1,55 @@
 -- The processor that the code moves is the one that the model moves.
-use mathlib.Core.Path.{◌≡◌, refl, ◌∙◌}
+use mathlib.Core.Path.{◌≡◌, refl, sym, ap, ◌∙◌}
 use mathlib.Core.Bool.{Bool, true, false, cond}
-use Prim.Native.Nat.{ℕ, suc, ◌+◌, ◌-◌, ◌≤◌, ◌<◌}
-use native.Mathlib.Numerals.{add-one}
+use Prim.Native.Nat.{ℕ, zero, suc, ◌+◌, ◌≤◌, ◌<◌}
 use native.Mathlib.Omega.{arith}
-use lib.Dec.{eqb, lit<}
+use lib.Dec.{lit<}
+use Rattle.std.specs.Prelude.{Option, Some, None}
+use Rattle.std.specs.Option.{MatchOption, option_or, unwrap_or}
 use Rattle.model.specs.Sizes.{processors}
 use Rattle.model.specs.Finish.{first_busy, mover}
 use Rattle.model.specs.Code.{Columns, four}
-use Rattle.machine_rules.specs.Guards.{nobody}
+use Rattle.model.proofs.Bools.{false-true}
 use Rattle.machine_state.specs.State.{State}
+use Rattle.machine_state.specs.Finished.{done_at}
 use Rattle.machine.specs.View.{processor_of, holder_of, machine_of}
 use Rattle.machine.specs.Ready.{Ready}
 use Rattle.machine.proofs.Ends.{done-is}
-use Rattle.machine_state.specs.Finished.{done_at}
 use Rattle.finish_left.specs.Mover.{first_busy_from, mover_in}
 
 -- ---- the search for the first processor that is not done
 
 module _ (done : ℕ → Bool) where
-  -- those below p are done
-  pub record Searched (p : ℕ) : Type 0 where
-    pub inside : p ≤ processors
-    pub rest : first_busy_from done p (processors - p) ≡ first_busy_from done 0 processors
+  none-busy : (p n : ℕ) → ((k : ℕ) → p ≤ k → k < p + n → done k ≡ true) → None ≡ first_busy_from done p n
+  unfolding first_busy_from
+  none-busy p zero all = refl
+  none-busy p (suc n) all = rw (all p (omega arith) (omega arith)) (none-busy (suc p) n (λ k low high. all k (omega arith) (omega arith)))
 
-  pub begins : Searched 0
-  begins = record { inside = omega arith; rest = refl }
+  some-busy : (p n i : ℕ) → p ≤ i → i < p + n → done i ≡ false → ((k : ℕ) → p ≤ k → k < i → done k ≡ true) → Some i ≡ first_busy_from done p n
+  unfolding first_busy_from
+  some-busy p zero i low high busy others = absurd (omega arith)
+  some-busy p (suc n) i low high busy others = go (some-busy (suc p) n i) (done p) refl
+    where
+      go : (suc p ≤ i → i < suc p + n → done i ≡ false → ((k : ℕ) → suc p ≤ k → k < i → done k ≡ true) → Some i ≡ first_busy_from done (suc p) n)
+          → (b : Bool) → done p ≡ b → Some i ≡ cond b (first_busy_from done (suc p) n) (Some p)
+      go later true e =
+          let apart : ¬ (i ≡ p) = λ z. false-true (sym busy ∙ ap done z ∙ e) in
+          later (omega arith) (omega arith) busy (λ k l h. others k (omega arith) h)
+      go later false e =
+          let none : ¬ (p < i) = λ l. false-true (sym e ∙ others p (omega arith) l) in
+          let same : i ≡ p = omega arith in
+          ap Some same
 
-  module _ (p : ℕ) (s : Searched p) where
-    pub ends : processors ≤ p → p ≡ first_busy_from done 0 processors
-    unfolding first_busy_from
-    ends l = let i = s.inside in let z : processors - p ≡ 0 = omega arith in rw z at s.rest
-
-    module _ (l : p < processors) (d : Bool) (test : d ≡ done p) where
-      more : cond d (first_busy_from done (suc p) (processors - suc p)) p ≡ first_busy_from done 0 processors
-      unfolding first_busy_from
-      more = let z : processors - p ≡ suc (processors - suc p) = omega arith in rw test (rw z at s.rest)
-
-      pub found : d ≡ false → p ≡ first_busy_from done 0 processors
-      found e = rw e at more
-
-      pub goes_on : d ≡ true → Searched (p + 1)
-      goes_on e = record { inside = omega arith; rest = rw add-one (rw e at more) }
+  pub found : (r : Option ℕ) → MatchOption r ((k : ℕ) → 0 ≤ k → k < processors → done k ≡ true)
+      (λ i. (0 ≤ i) × (i < processors) × (done i ≡ false) × ((k : ℕ) → 0 ≤ k → k < i → done k ≡ true))
+      → r ≡ first_busy_from done 0 processors
+  found None all = none-busy 0 processors all
+  found (Some i) f = some-busy 0 processors i f.0 f.1 f.2 f.3
 
 -- ---- it is the model's
 
-four-busy : (a b c d : Bool) → cond a (suc (cond b (suc (cond c (suc (cond d (suc 0) 0)) 0)) 0)) 0 ≡ cond a (cond b (cond c (cond d 4 3) 2) 1) 0
+four-busy : (a b c d : Bool) → cond a (suc (cond b (suc (cond c (suc (cond d (suc 0) 0)) 0)) 0)) 0
+    ≡ unwrap_or (cond a (cond b (cond c (cond d None (Some 3)) (Some 2)) (Some 1)) (Some 0)) 4
 four-busy false b c d = refl
 four-busy true false c d = refl
 four-busy true true false d = refl
@@ -54,9 +58,9 @@ four-busy true true true true = refl
 
 module _ (g : Columns) (m : State) (ready : Ready g m) where
   abbrev done : ℕ → Bool
-  done p = done_at m.at g.counts m.drained m.issued p
+  done p = done_at g m p
 
-  first-busy : first_busy (four (processor_of g m)) ≡ first_busy_from done 0 processors
+  first-busy : first_busy (four (processor_of g m)) ≡ unwrap_or (first_busy_from done 0 processors) processors
   unfolding first_busy first_busy_from
   first-busy =
       (λ j. first_busy_of (done-is g m ready 0 (lit< tt) j) (done-is g m ready 1 (lit< tt) j) (done-is g m ready 2 (lit< tt) j) (done-is g m ready 3 (lit< tt) j))
@@ -65,10 +69,11 @@ module _ (g : Columns) (m : State) (ready : Ready g m) where
       first_busy_of : Bool → Bool → Bool → Bool → ℕ
       first_busy_of a b c d = cond a (suc (cond b (suc (cond c (suc (cond d (suc 0) 0)) 0)) 0)) 0
 
-  pub mover-is : mover (machine_of g m).holder (machine_of g m).processors ≡ mover_in m.at g.counts m.drained m.issued m.holder
+  -- with no mover the model has the number past the processors
+  pub mover-is : mover (machine_of g m).holder (machine_of g m).processors ≡ unwrap_or (mover_in g m) processors
   unfolding mover machine_of holder_of mover_in
-  mover-is = go (eqb m.holder nobody)
+  mover-is = go m.holder
     where
-      go : (b : Bool) → mover (cond b Rattle.model.specs.Machine.free (Rattle.model.specs.Machine.held m.holder)) (four (processor_of g m)) ≡ cond b (first_busy_from done 0 processors) m.holder
-      go true = first-busy
-      go false = refl
+      go : (h : Option ℕ) → mover (holder_of h) (four (processor_of g m)) ≡ unwrap_or (option_or h (first_busy_from done 0 processors)) processors
+      go None = first-busy
+      go (Some p) = refl

@@ -1,11 +1,13 @@
--- k, by the lists that it depends on. proofs/Lefts.antt proves that it is the model's.
-use Rattle.std.specs.Prelude.{List, ℕ, zero, suc, ◌+◌, ◌-◌, ◌≤◌, ◌<◌, get_or}
+-- k, where g has the programs. proofs/Lefts.antt proves that it is the model's.
+use Rattle.std.specs.Prelude.{ℕ, zero, suc, ◌+◌, ◌-◌, ◌≤◌, ◌<◌, get_or}
 use Rattle.model.specs.Sizes.{processors, instructions_each}
+use Rattle.model.specs.Code.{Columns, count_in}
+use Rattle.machine_state.specs.State.{State}
 use Rattle.finish_left.specs.Weight.{program_left, Countable}
 
-module _ (kinds counts at phase issued drained : List ℕ) where
+module _ (g : Columns) (m : State) where
   abbrev pub processor_left : ℕ → ℕ
-  processor_left p = program_left kinds p (get_or counts p 0) (get_or at p 0) (get_or phase p 0) + (get_or issued p 0 - get_or drained p 0)
+  processor_left p = program_left g.kinds p (count_in g p) (get_or m.at p 0) (get_or m.phase p 0) + (get_or m.issued p 0 - get_or m.drained p 0)
 
   -- of the first n processors
   unfoldable pub left_of_first : ℕ → ℕ
@@ -17,9 +19,9 @@ module _ (kinds counts at phase issued drained : List ℕ) where
 
   -- what it asks of processor p
   pub record CountableAt (p : ℕ) : Type 0 where
-    pub program : Countable kinds p (get_or counts p 0) (get_or at p 0) (get_or phase p 0)
-    pub order : get_or drained p 0 ≤ get_or issued p 0
-    pub few : get_or issued p 0 ≤ instructions_each
+    pub program : Countable g.kinds p (count_in g p) (get_or m.at p 0) (get_or m.phase p 0)
+    pub order : get_or m.drained p 0 ≤ get_or m.issued p 0
+    pub few : get_or m.issued p 0 ≤ instructions_each
 
   pub record AllCountable : Type 0 where
     pub each : (p : ℕ) → p < processors → CountableAt p

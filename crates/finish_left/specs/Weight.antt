@@ -17,6 +17,10 @@ unfoldable pub weight : List ℕ → ℕ
 weight [] = 0
 weight (kind ∷ rest) = step_weight kind + weight rest
 
+-- of an instruction of this kind, from program step f on
+abbrev pub instruction_left : (kind f : ℕ) → ℕ
+instruction_left kind f = weight (drop f (map kind_of (steps_of_kind kind)))
+
 -- no program weighs more
 abbrev pub heaviest : ℕ
 heaviest = steps_each * instructions_each

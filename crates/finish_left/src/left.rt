@@ -1,59 +1,63 @@
 // k: the program steps left, plus the writes not yet issued, plus the writes waiting.
-ghost use Rattle.std.specs.Prelude.{◌≡◌, ◌+◌, ◌*◌, ◌≤◌, get_or};
-ghost use Rattle.machine_state.specs.Packed.{kinds_in, counts_in, at_in, phase_in, issued_in, drained_in};
-ghost use Rattle.finish_left.specs.Weight.{step_weight, heaviest, program_left, Countable};
+ghost use Rattle.std.specs.Prelude.{◌≡◌, ◌+◌, ◌*◌, ◌≤◌, ◌<◌, get_or};
+ghost use Rattle.model.specs.Code.{count_in};
+ghost use Rattle.machine_rules.specs.Steps.{code_of};
+ghost use Rattle.finish_left.specs.Weight.{step_weight, instruction_left, heaviest, program_left, Countable};
 ghost use Rattle.finish_left.specs.Left.{left_in, AllCountable};
 
 use machine_rules::program;
-use machine_rules::program::WRITE;
+use machine_rules::program::Step;
 use machine_state::program as programs;
 use machine_state::state::Machine;
+use model::kind::Role;
 use model::table::Program;
 
 // A program step counts one, and a write one more for its drain.
-fn step_weight(kind: u8) -> usize
-    ensures { result ≡ step_weight kind }
+fn step_weight(step: Step) -> usize
+    ensures { result ≡ step_weight (code_of step) }
 {
-    if kind == WRITE { 2 } else { 1 }
+    match step {
+        Step::Write => 2,
+        _ => 1,
+    }
 }
 
-// Of processor p's program.
-fn program_left(codes: &[u8; Program::CODES], marks: &[usize; Machine::MARKS], p: usize) -> usize
-    requires { Countable (kinds_in codes.now) p (get_or (counts_in codes.now) p 0)
-        (get_or (at_in marks.now) p 0) (get_or (phase_in marks.now) p 0) }
-    ensures { (result ≡ program_left (kinds_in codes.now) p (get_or (counts_in codes.now) p 0)
-        (get_or (at_in marks.now) p 0) (get_or (phase_in marks.now) p 0)) × (result ≤ heaviest) }
+// Of an instruction of this kind, from program step f on.
+fn instruction_left(kind: u8, f: usize) -> usize
+    requires { kind < Role.KINDS }
+    ensures { result ≡ instruction_left kind f }
 {
-    let count = programs::count(codes, p);
     let mut k = 0;
-    let mut a = marks[Machine::AT + p];
-    let mut f = marks[Machine::PHASE + p];
-    while a < count {
-        let kind = programs::kind(codes, p, a);
-        k += step_weight(program::step_kind(kind, f));
-        f += 1;
-        if f == program::step_count(kind) {
-            a += 1;
-            f = 0;
-        }
+    for next in f..Role::PHASES {
+        k += program::next_step(kind, next).map_or(0, step_weight);
     }
     k
 }
 
-// The bound is wider than the longest trace: it is there so that no sum runs over.
-pub fn left(codes: &[u8; Program::CODES], marks: &[usize; Machine::MARKS]) -> usize
-    requires { AllCountable (kinds_in codes.now) (counts_in codes.now) (at_in marks.now) (phase_in marks.now)
-        (issued_in marks.now) (drained_in marks.now) }
-    ensures value { result ≡ left_in (kinds_in codes.now) (counts_in codes.now) (at_in marks.now)
-        (phase_in marks.now) (issued_in marks.now) (drained_in marks.now) }
+// Of processor p's program.
+fn program_left(program: &Program, m: &Machine, p: usize) -> usize
+    requires { Countable program.now.kinds p (count_in program.now p) (get_or m.now.at p 0) (get_or m.now.phase p 0) }
+    ensures { (result ≡ program_left program.now.kinds p (count_in program.now p) (get_or m.now.at p 0) (get_or m.now.phase p 0)) × (result ≤ heaviest) }
+{
+    let mut k = 0;
+    let mut f = m.phase[p];
+    for a in m.at[p]..programs::count(program, p) {
+        k += instruction_left(programs::kind(program, p, a), f);
+        f = 0;
+    }
+    k
+}
+
+// By number, as `left_of_first` goes: several arrays are read at p. The bound is wider than the longest trace: it is there so that no sum runs over.
+pub fn left(program: &Program, m: &Machine) -> usize
+    requires { AllCountable program.now m.now }
+    ensures value { result ≡ left_in program.now m.now }
     ensures result_bound { result ≤ Program.PROCESSORS * (heaviest + Program.INSTRUCTIONS) }
 {
     let mut k = 0;
-    let mut p = 0;
-    while p < Program::PROCESSORS {
-        let waiting = marks[Machine::ISSUED + p] - marks[Machine::DRAINED + p];
-        k += program_left(codes, marks, p) + waiting;
-        p += 1;
+    for p in 0..Program::PROCESSORS {
+        let waiting = m.issued[p] - m.drained[p];
+        k += program_left(program, m, p) + waiting;
     }
     k
 }

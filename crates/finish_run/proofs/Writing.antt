@@ -46,7 +46,7 @@ module _ (g : Columns) (s : State) (k : ℕ) (room : List ℕ) where
     file-long : length (file_of w.events) ≡ i * record_size
     file-long = let e = w.taken in omega (arith, file-length w.events)
 
-    pub same_length : length now ≡ length room
+    same_length : length now ≡ length room
     same_length =
         let f = c.fits in
         ap (λ (l : List ℕ). length l) w.here ∙ length-append (file_of w.events) (drop (i * record_size) room)

@@ -2,7 +2,6 @@
 ghost use Rattle.std.specs.Prelude.{◌≡◌};
 ghost use Rattle.model.specs.Calls.{completed_at};
 ghost use Rattle.model.specs.Reply.{reply_of};
-ghost use Rattle.machine_state.specs.Packed.{state_in, columns_in};
 ghost use Rattle.machine.specs.View.{reached_of};
 ghost use Rattle.finish_step.specs.Finishing.{Underway};
 ghost use Rattle.finish_run.specs.Completing.{Completable, completed_in};
@@ -16,48 +15,26 @@ use model::table::Program;
 use record::bytes;
 
 // The k steps that are left, from the start of the room on.
-fn write_steps<'a>(
-    codes: &'a [u8; Program::CODES],
-    constants: &'a [u32; Program::PLACES],
-    cells: &'a mut [u32; Machine::CELLS],
-    locations: &'a mut [u8; Program::PLACES],
-    values: &'a mut [u32; Program::PLACES],
-    marks: &'a mut [usize; Machine::MARKS],
-    k: usize,
-    room: &mut [u8],
-)
-    requires { Completable (columns_in codes.now constants.now)
-        (state_in cells.old locations.old values.old marks.old) k room.old }
-    ensures { room.new ≡ completed_in (columns_in codes.now constants.now)
-        (state_in cells.old locations.old values.old marks.old) k room.old }
+fn write_steps(program: &Program, m: &mut Machine, k: usize, room: &mut [u8])
+    requires { Completable program.now m.old k room.old }
+    ensures { room.new ≡ completed_in program.now m.old k room.old }
 {
-    let mut i = 0;
-    while i < k {
-        let e = finishing::finishing_step(codes, constants, cells, locations, values, marks);
+    for i in 0..k {
+        let e = finishing::finishing_step(program, m);
         bytes::write_record(room, i, e);
-        i += 1;
     }
 }
 
-// The answer where the trace leads to this state: 13, or k and its steps, which are taken on the arrays.
-pub fn complete<'a>(
-    codes: &'a [u8; Program::CODES],
-    constants: &'a [u32; Program::PLACES],
-    cells: &'a mut [u32; Machine::CELLS],
-    locations: &'a mut [u8; Program::PLACES],
-    values: &'a mut [u32; Program::PLACES],
-    marks: &'a mut [usize; Machine::MARKS],
-    room: &mut [u8],
-) -> Answer
-    requires { Underway (columns_in codes.now constants.now) (state_in cells.old locations.old values.old marks.old) }
-    ensures { reply_of result room.new ≡ completed_at room.old (reached_of (columns_in codes.now constants.now)
-        (state_in cells.old locations.old values.old marks.old)) }
+// The answer where the trace leads to this machine: 13, or k and its steps, which are taken on it.
+pub fn complete(program: &Program, m: &mut Machine, room: &mut [u8]) -> Answer
+    requires { Underway program.now m.old }
+    ensures { reply_of result room.new ≡ completed_at room.old (reached_of program.now m.old) }
 {
-    let k = left::left(codes, marks);
+    let k = left::left(program, m);
     let needed = Record::BYTES * k;
     if room.len() < needed {
-        return Answer::Refused(Refusal::RoomTooSmall, needed);
+        return Err(Refusal::RoomTooSmall.at(needed));
     }
-    write_steps(codes, constants, cells, locations, values, marks, k, room);
-    Answer::Done(k)
+    write_steps(program, m, k, room);
+    Ok(k)
 }

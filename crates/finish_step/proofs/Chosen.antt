@@ -8,6 +8,8 @@ use native.Mathlib.Omega.{arith}
 use lib.ListN.{get_or}
 use lib.Dec.{eqb, lit<}
 use borrow.Author.Tests.{eqb-false, eq-eqb, ne_eqb}
+use Rattle.std.specs.Prelude.{Option, Some, None}
+use Rattle.std.specs.Option.{unwrap_or}
 use Rattle.model.specs.declared.record.Record.{Record}
 use Rattle.model.specs.Sizes.{processors}
 use Rattle.model.specs.Machine as model
@@ -20,14 +22,17 @@ use Rattle.model.specs.Finish.{mover, drain_or_next, finishing_move}
 use Rattle.model.proofs.Tests.{some_inj, none-some}
 use Rattle.model.proofs.Movers.{mover-moves, mover-busy}
 use Rattle.model.proofs.Finish.{Finisher, finisher}
-use Rattle.machine_rules.specs.Steps.{step_kind}
+use Rattle.machine_rules.specs.declared.program.Step.{Step}
+use Rattle.machine_rules.specs.Steps.{step_kind, code_of}
 use Rattle.machine_rules.specs.Programs.{fetched, Fetched}
 use Rattle.machine_rules.specs.Offers.{oldest_in, offered_in}
 use Rattle.machine_state.specs.State.{State}
 use Rattle.machine.specs.View.{machine_of}
 use Rattle.machine.specs.Arrays.{is_dry, next_of, offered_of}
-use Rattle.machine.specs.Stores.{advanced_in, after_event}
-use Rattle.machine.specs.Ready.{Own, Ready}
+use Rattle.machine.specs.Stores.{after_event}
+use Rattle.machine_store.specs.Stores.{advanced_in}
+use Rattle.machine.specs.Ready.{Ready}
+use Rattle.machine_store.specs.Stores.{Own}
 use Rattle.machine.proofs.Moves.{offer, empty-is, oldest-offer}
 use Rattle.machine.proofs.Sim.{next-offer}
 use Rattle.machine.proofs.Standing.{any-whose, any-low, any-own}
@@ -125,30 +130,39 @@ module _ (g : Columns) (m : State) (u : HasMore g m) where
       stands-inside : get_or m.at q 0 < count_in g q
       stands-inside = inside g m ready i here h (rw (next-fields g m ready i here h kind).0 at (subst (λ (o : Event). 0 < o.kind) (sym is-next) it.some-kind))
 
-      pub carried-by : (next : ℕ) → next ≡ kind → (e : Event) (n : State) → CarriesOut m i next e n → FinishesBy g m e (advanced_in n i)
+      pub carried-by : (next : Step) → code_of next ≡ kind → (e : Event) (n : State) → CarriesOut m i next e n → FinishesBy g m e (advanced_in n i)
       unfolding after_event
       carried-by next is e n t =
           let known : e ≡ next_of m i kind = t.says ∙ ap (next_of m i) is in
           let other : ¬ (e.kind ≡ 3) = λ z. not-drain g m ready i here h stands-inside (sym (next-fields g m ready i here h kind).0 ∙ sym (ap (λ (o : Event). o.kind) known) ∙ z) in
           finishes-by e (known ∙ is-next) _ (rw (ne_eqb e.kind 3 other) (ap (λ (c : State). advanced_in c i) t.after))
 
-  -- ---- where p moves
+  -- ---- who moves
 
-  module _ (p : ℕ) (moves : p ≡ mover_in m.at g.counts m.drained m.issued m.holder) where
+  -- only the four processors have something to do
+  busy-low : (q : ℕ) → ¬ Done (processor M q) → q < processors
+  unfolding processor machine_of model.idle
+  busy-low zero n = lit< tt
+  busy-low (suc zero) n = lit< tt
+  busy-low (suc (suc zero)) n = lit< tt
+  busy-low (suc (suc (suc zero))) n = lit< tt
+  busy-low (suc (suc (suc (suc q)))) n = absurd (n (refl, refl))
+
+  low-mover : (q : ℕ) → mover M.holder M.processors ≡ q → q < processors
+  low-mover q is = busy-low q (mover-busy M q u.underway.orderly (subst (Mover M) is (mover-moves M u.more)))
+
+  mover-by : (o : Option ℕ) → o ≡ mover_in g m → mover M.holder M.processors ≡ unwrap_or o processors
+  mover-by o is = mover-is g m ready ∙ ap (λ (o : Option ℕ). unwrap_or o processors) (sym is)
+
+  pub some-mover : ¬ (None ≡ mover_in g m)
+  some-mover z = absurd (omega (arith, low-mover processors (mover-by None z)))
+
+  module _ (p : ℕ) (moves : Some p ≡ mover_in g m) where
     pub is-mover : mover M.holder M.processors ≡ p
-    is-mover = mover-is g m ready ∙ sym moves
-
-    -- only the four processors have something to do
-    busy-low : (q : ℕ) → ¬ Done (processor M q) → q < processors
-    unfolding processor machine_of model.idle
-    busy-low zero n = lit< tt
-    busy-low (suc zero) n = lit< tt
-    busy-low (suc (suc zero)) n = lit< tt
-    busy-low (suc (suc (suc zero))) n = lit< tt
-    busy-low (suc (suc (suc (suc q)))) n = absurd (n (refl, refl))
+    is-mover = mover-by (Some p) moves
 
     pub low : p < processors
-    low = busy-low p (mover-busy M p u.underway.orderly (subst (Mover M) is-mover (mover-moves M u.more)))
+    low = low-mover p is-mover
 
     -- with or without an instruction
     whose : p ≡ (fetched g p (get_or m.at p 0)).processor

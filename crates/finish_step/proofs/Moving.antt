@@ -1,107 +1,107 @@
 -- The code's finishing step, from its parts to its promise.
-use mathlib.Core.Path.{◌≡◌, sym, ap, ◌∙◌, subst}
-use mathlib.Core.List.{List}
+use mathlib.Core.Path.{◌≡◌, sym, ◌∙◌, subst}
 use Prim.Native.Nat.{ℕ, ◌<◌}
 use native.Mathlib.Omega.{arith}
 use lib.ListN.{get_or}
+use Rattle.std.specs.Prelude.{Some, None}
 use Rattle.model.specs.declared.record.Record.{Record}
-use Rattle.model.specs.Sizes.{processors, instructions_each, phases}
+use Rattle.model.specs.Sizes.{instructions_each, phases}
 use Rattle.model.specs.Rules.{Event}
 use Rattle.model.specs.Code.{Columns, count_in, instruction_at}
-use Rattle.machine_rules.specs.Steps.{step_kind}
+use Rattle.machine_rules.specs.declared.program.Step.{Step}
+use Rattle.machine_rules.specs.Steps.{step_kind, step_of, code_of, next_step}
 use Rattle.machine_rules.specs.Programs.{Fetched}
+use Rattle.machine_rules.proofs.Codes.{no_step, code-is}
 use Rattle.machine_rules.proofs.Table.{rows, in_rows}
 use Rattle.machine_state.specs.State.{State}
-use Rattle.machine_state.specs.Packed.{stands_at, phase_at, issued_at, drained_at, holder_in, at_in, issued_in, drained_in, counts_in, state_in, columns_in}
-use Rattle.machine_store.specs.Stores.{advanced, Onward}
+use Rattle.machine_store.specs.Stores.{advanced_in, Onward}
 use Rattle.machine.specs.Ready.{Ready}
-use Rattle.machine.proofs.Stored as stored
 use Rattle.machine.proofs.Standing as standing
 use Rattle.machine.proofs.Standing.{Stays, stays}
+use Rattle.machine.proofs.Todo.{by_kind}
 use Rattle.finish_left.specs.Mover.{mover_in}
 use Rattle.finish_step.specs.Moves.{MayDrainOldest, DrainsOldest, MayCarryOut, CarriesOut}
-use Rattle.finish_step.specs.Finishing.{HasMore, FinishesBy}
+use Rattle.finish_step.specs.Finishing.{HasMore, HasMover, FinishesBy}
 use Rattle.finish_step.proofs.Chosen as chosen
 
-module _ (codes constants cells locations values marks : List ℕ) (u : HasMore (columns_in codes constants) (state_in cells locations values marks)) (p : ℕ)
-    (moves : p ≡ mover_in (at_in marks) (counts_in codes) (drained_in marks) (issued_in marks) (holder_in marks)) where
-  abbrev g : Columns
-  g = columns_in codes constants
+module _ (g : Columns) (m : State) (u : HasMore g m) where
+  pub some-mover : ¬ (None ≡ mover_in g m)
+  some-mover = chosen.some-mover g m u
 
-  abbrev m : State
-  m = state_in cells locations values marks
+  pub one-moves : (p : ℕ) → Some p ≡ mover_in g m → HasMover g m p
+  one-moves p moves = record { more = u; mover = moves; low = chosen.low g m u p moves }
 
+module _ (g : Columns) (m : State) (p : ℕ) (t : HasMover g m p) where
   ready : Ready g m
-  ready = u.underway.ready
-
-  who : p ≡ mover_in m.at g.counts m.drained m.issued m.holder
-  unfolding state_in columns_in
-  who = moves
-
-  pub low : p < processors
-  low = chosen.low g m u p who
-
-  n-is : get_or marks (issued_at p) 0 ≡ get_or m.issued p 0
-  n-is = standing.n-is _ _ _ _ _ _ ready p low
-
-  d-is : get_or marks (drained_at p) 0 ≡ get_or m.drained p 0
-  d-is = standing.d-is _ _ _ _ _ _ ready p low
+  ready = t.more.underway.ready
 
   -- ---- a write waits
 
-  module _ (w : ¬ (get_or marks (drained_at p) 0 ≡ get_or marks (issued_at p) 0)) where
-    pub can-drain : MayDrainOldest locations marks p
-    unfolding state_in
+  module _ (w : ¬ (get_or m.drained p 0 ≡ get_or m.issued p 0)) where
+    pub can-drain : MayDrainOldest m p
     can-drain =
-        let r = ready.each p low in
+        let r = ready.each p t.low in
         let o = r.order in
         let f = r.room in
-        record { processor = low; location = ready.in_log _; few = omega (arith, w, n-is, d-is) }
+        record { processor = t.low; location = ready.in_log _; few = omega (arith, w) }
 
     pub drains-it : (e : Event) (n : State) → DrainsOldest m p e n → FinishesBy g m e n
-    drains-it = chosen.finishes-drained g m u p who (λ z. w (d-is ∙ z ∙ sym n-is))
+    drains-it = chosen.finishes-drained g m t.more p t.mover w
 
   -- ---- none waits
 
-  module _ (w : get_or marks (drained_at p) 0 ≡ get_or marks (issued_at p) 0) where
-    dry : get_or m.drained p 0 ≡ get_or m.issued p 0
-    dry = sym d-is ∙ w ∙ n-is
-
+  module _ (w : get_or m.drained p 0 ≡ get_or m.issued p 0) where
     within : get_or m.at p 0 < count_in g p
-    within = chosen.within g m u p who dry
+    within = chosen.within g m t.more p t.mover w
 
-    pub below : get_or marks (stands_at p) 0 < instructions_each
-    below = standing.below _ _ _ _ _ _ ready p low within
+    pub below : get_or m.at p 0 < instructions_each
+    below = standing.below g m ready p t.low within
 
-    module _ (i : Record) (read : i ≡ instruction_at g p (get_or marks (stands_at p) 0)) where
+    module _ (i : Record) (read : i ≡ instruction_at g p (get_or m.at p 0)) where
       its : i.processor ≡ p
-      its = standing.its _ _ _ _ _ _ ready p low within i read
-
-      own-low : i.processor < processors
-      own-low = standing.own-low _ _ _ _ _ _ ready p low within i read
+      its = standing.its g m ready p t.low within i read
 
       here : Fetched g i.processor (get_or m.at i.processor 0) i
-      here = standing.here _ _ _ _ _ _ ready p low within i read
+      here = standing.here g m ready p t.low within i read
 
-      pub known-kind : (i.kind < rows) × (get_or marks (phase_at p) 0 < phases)
-      known-kind = (in_rows here.kind, standing.low-phase _ _ _ _ _ _ ready p low)
+      pub known-kind : (i.kind < rows) × (get_or m.phase p 0 < phases)
+      known-kind = (in_rows here.kind, (ready.each p t.low).stands.phase)
 
-      module _ (next : ℕ) (is : next ≡ step_kind i.kind (get_or marks (phase_at p) 0)) where
-        pub may-carry-out : MayCarryOut marks i next
+      -- a program step is left
+      abbrev Left : ℕ → Type 0
+      Left k = ¬ (step_of k ≡ None) × ¬ (k ≡ 3)
+
+      left : Left (step_kind i.kind (get_or m.phase p 0))
+      left =
+          by_kind Left (left-step 1 (omega arith) (omega arith) (omega arith)) (left-step 2 (omega arith) (omega arith) (omega arith))
+          (left-step 4 (omega arith) (omega arith) (omega arith)) (left-step 5 (omega arith) (omega arith) (omega arith))
+          (left-step 6 (omega arith) (omega arith) (omega arith)) (left-step 7 (omega arith) (omega arith) (omega arith))
+          i.kind (get_or m.phase p 0) here.kind (rw read ((ready.each p t.low).stands.inside within))
+        where
+          left-step : (k : ℕ) → 0 < k → k < 8 → ¬ (k ≡ 3) → Left k
+          left-step k some low other = (no_step k some low, other)
+
+      pub some-next : ¬ (None ≡ next_step i.kind (get_or m.phase p 0))
+      some-next z = left.0 (sym z)
+
+      module _ (next : Step) (offered : Some next ≡ next_step i.kind (get_or m.phase p 0)) where
+        is : code_of next ≡ step_kind i.kind (get_or m.phase p 0)
+        is = code-is next _ offered
+
+        pub may-carry-out : MayCarryOut m i next
         may-carry-out = record {
-          own = record { processor = own-low; register = here.register };
+          own = record { processor = standing.own-low g m ready p t.low within i read; register = here.register };
           location = here.location;
-          has_marks = standing.has-marks _ _ _ _ _ _ ready p low;
           dry = rw its w;
-          write = λ z. rw its (standing.issuable _ _ _ _ _ _ ready p low within i read (sym is ∙ z));
+          program = λ z. left.1 (sym is ∙ z);
+          write = λ z. standing.issuable g m ready p t.low within i read (sym is ∙ z);
         }
 
-        module _ (e : Event) (cells' locations' values' marks' : List ℕ) (t : CarriesOut m i next e (state_in cells' locations' values' marks')) where
-          pub onwards : Onward marks' i.kind p
-          onwards = standing.onwards _ _ _ _ _ _ ready p low within i read cells' locations' values' marks' (subst (Stays m) (sym t.after) (stays m i e))
+        module _ (e : Event) (n : State) (c : CarriesOut m i next e n) where
+          pub onwards : Onward n i
+          onwards = standing.onwards g m ready p t.low within i read n (subst (Stays m) (sym c.after) (stays m i e))
 
-          pub carries-it : (marks'' : List ℕ) → marks'' ≡ advanced marks' i.kind p → FinishesBy g m e (state_in cells' locations' values' marks'')
-          carries-it marks'' f =
-              rw (ap (state_in cells' locations' values') (f ∙ ap (advanced marks' i.kind) (sym its)) ∙ stored.advanced-is cells' locations' values' marks' i own-low)
-              (chosen.carried-by g m u i here own-low (chosen.is-mover g m u p who ∙ sym its)
-              (subst (λ (q : ℕ). get_or m.drained q 0 ≡ get_or m.issued q 0) (sym its) dry) next (is ∙ standing.kind-is _ _ _ _ _ _ ready p low within i read) e _ t)
+          pub carries-it : FinishesBy g m e (advanced_in n i)
+          carries-it =
+              chosen.carried-by g m t.more i here (standing.own-low g m ready p t.low within i read) (chosen.is-mover g m t.more p t.mover ∙ sym its)
+              (subst (λ (q : ℕ). get_or m.drained q 0 ≡ get_or m.issued q 0) (sym its) w) next (is ∙ standing.kind-is g m ready p t.low within i read) e n c

@@ -1,22 +1,21 @@
 // The moves that finish a run: a processor drains its oldest waiting write or, with none, takes its next program step. Each answers its event.
 ghost use Rattle.std.specs.Prelude.{◌≡◌, ◌<◌};
 ghost use Rattle.model.specs.Rules.{event as event_as};
-ghost use Rattle.machine_state.specs.Packed.{state_in};
+ghost use Rattle.machine_rules.specs.Steps.{code_of};
 ghost use Rattle.finish_step.specs.Moves.{MayDrainOldest, DrainsOldest, MayCarryOut, CarriesOut};
 
 use machine_rules::guards;
-use machine_rules::guards::NOBODY;
-use machine_rules::program::{DRAIN, LOCAL, LOCK, READ, UNLOCK, WRITE};
+use machine_rules::program::Step;
 use machine_state::state::Machine;
 use model::record::Record;
-use model::table::{Cells, Program};
+use model::table::Program;
 
-fn event(kind: u8, p: usize, x: u8, v: u32) -> Record
+fn event(step: Step, p: usize, x: u8, v: u32) -> Record
     requires { p < Program.PROCESSORS }
-    ensures { result ≡ event_as kind p x v }
+    ensures { result ≡ event_as (code_of step) p x v }
 {
     Record {
-        kind: kind,
+        kind: u8::from(step),
         processor: p as u8,
         register: 0,
         location: x,
@@ -24,66 +23,50 @@ fn event(kind: u8, p: usize, x: u8, v: u32) -> Record
     }
 }
 
-pub fn drain_oldest<'a>(
-    cells: &'a mut [u32; Machine::CELLS],
-    locations: &'a [u8; Program::PLACES],
-    values: &'a [u32; Program::PLACES],
-    marks: &'a mut [usize; Machine::MARKS],
-    p: usize,
-) -> Record
-    requires { MayDrainOldest locations.now marks.old p }
-    ensures { DrainsOldest (state_in cells.old locations.now values.now marks.old)
-        p result (state_in cells.new locations.now values.now marks.new) }
+pub fn drain_oldest(m: &mut Machine, p: usize) -> Record
+    requires { MayDrainOldest m.old p }
+    ensures { DrainsOldest m.old p result m.new }
 {
-    let d = marks[Machine::DRAINED + p];
-    let place = Program::INSTRUCTIONS * p + d;
-    let x = locations[place];
-    let v = values[place];
-    machine_store::drain(cells, marks, p, x, v);
-    event(DRAIN, p, x, v)
+    let place = Program::INSTRUCTIONS * p + m.drained[p];
+    let e = event(Step::Drain, p, m.locations[place], m.values[place]);
+    machine_store::drain(m, e);
+    e
 }
 
-// The program step of kind `next`, before the program goes on. Its processor stands at the instruction i, and nothing of it waits: a read sees memory.
-pub fn carry_out<'a>(
-    cells: &'a mut [u32; Machine::CELLS],
-    locations: &'a mut [u8; Program::PLACES],
-    values: &'a mut [u32; Program::PLACES],
-    marks: &'a mut [usize; Machine::MARKS],
-    i: Record,
-    next: u8,
-) -> Record
-    requires { MayCarryOut marks.old i next }
-    ensures { CarriesOut (state_in cells.old locations.old values.old marks.old)
-        i next result (state_in cells.new locations.new values.new marks.new) }
+// The program step `next`, before the program goes on. Its processor stands at the instruction i, and nothing of it waits: a read sees memory.
+pub fn carry_out(m: &mut Machine, i: Record, next: Step) -> Record
+    requires { MayCarryOut m.old i next }
+    ensures { CarriesOut m.old i next result m.new }
 {
     let p = i.processor as usize;
-    let c = Cells::REGISTERS * p + (i.register as usize);
     match next {
-        READ => {
-            let cell = Machine::MEMORY + (i.location as usize);
-            let v = cells[cell];
-            machine_store::receive(cells, i.kind, p, c, v);
-            event(READ, p, i.location, v)
+        Step::Read => {
+            let e = event(next, p, i.location, m.memory[i.location as usize]);
+            machine_store::receive(m, i, e.value);
+            e
         }
-        WRITE => {
-            let v = guards::issued_by(i.kind, i.value, cells[Machine::KEPT + p], cells[c]);
-            machine_store::exchange(cells, i.kind, p, c);
-            machine_store::issue(locations, values, marks, p, i.location, v);
-            event(WRITE, p, i.location, v)
+        Step::Write => {
+            let c = machine_store::register(i);
+            let v = guards::issued_by(i.kind, i.value, m.kept[p], m.registers[c]);
+            let e = event(next, p, i.location, v);
+            machine_store::exchange(m, i, c);
+            machine_store::issue(m, i, e);
+            e
         }
-        LOCK => {
-            marks[Machine::HOLDER] = p;
-            event(LOCK, p, 0, 0)
+        Step::Fence => event(next, p, 0, 0),
+        Step::Lock => {
+            m.holder = Some(p);
+            event(next, p, 0, 0)
         }
-        UNLOCK => {
-            marks[Machine::HOLDER] = NOBODY;
-            event(UNLOCK, p, 0, 0)
+        Step::Unlock => {
+            m.holder = None;
+            event(next, p, 0, 0)
         }
-        LOCAL => {
-            cells[c] = i.value;
-            event(LOCAL, p, 0, 0)
+        Step::Local => {
+            machine_store::assign(m, i);
+            event(next, p, 0, 0)
         }
-        // A fence.
-        _ => event(next, p, 0, 0),
+        // No program step.
+        Step::Drain => unreachable!(),
     }
 }

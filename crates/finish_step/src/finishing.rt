@@ -1,6 +1,5 @@
 // One finishing step.
-ghost use Rattle.machine_state.specs.Packed.{state_in, columns_in};
-ghost use Rattle.finish_step.specs.Finishing.{HasMore, FinishesBy};
+ghost use Rattle.finish_step.specs.Finishing.{HasMore, HasMover, FinishesBy};
 
 use crate::carry;
 use finish_left::mover;
@@ -10,27 +9,32 @@ use machine_state::state::Machine;
 use model::record::Record;
 use model::table::Program;
 
-// Takes the finishing step, and answers its event.
-pub fn finishing_step<'a>(
-    codes: &'a [u8; Program::CODES],
-    constants: &'a [u32; Program::PLACES],
-    cells: &'a mut [u32; Machine::CELLS],
-    locations: &'a mut [u8; Program::PLACES],
-    values: &'a mut [u32; Program::PLACES],
-    marks: &'a mut [usize; Machine::MARKS],
-) -> Record
-    requires { HasMore (columns_in codes.now constants.now) (state_in cells.old locations.old values.old marks.old) }
-    ensures { FinishesBy (columns_in codes.now constants.now)
-        (state_in cells.old locations.old values.old marks.old)
-        result (state_in cells.new locations.new values.new marks.new) }
+// Processor p, who moves, drains its oldest waiting write or, with none, takes its next program step.
+fn step_of(program: &Program, m: &mut Machine, p: usize) -> Record
+    requires { HasMover program.now m.old p }
+    ensures { FinishesBy program.now m.old result m.new }
 {
-    let p = mover::mover(codes, marks);
-    if marks[Machine::DRAINED + p] != marks[Machine::ISSUED + p] {
-        return carry::drain_oldest(cells, locations, values, marks, p);
+    if m.drained[p] != m.issued[p] {
+        return carry::drain_oldest(m, p);
     }
-    let i = programs::instruction(codes, constants, p, marks[Machine::AT + p]);
-    let next = program::step_kind(i.kind, marks[Machine::PHASE + p]);
-    let e = carry::carry_out(cells, locations, values, marks, i, next);
-    machine_store::advance(marks, i.kind, p);
+    let i = programs::instruction(program, p, m.at[p]);
+    // Nothing waits, so a program step is left.
+    let Some(next) = program::next_step(i.kind, m.phase[p]) else {
+        unreachable!()
+    };
+    let e = carry::carry_out(m, i, next);
+    machine_store::advance(m, i);
     e
+}
+
+// Takes the finishing step, and answers its event.
+pub fn finishing_step(program: &Program, m: &mut Machine) -> Record
+    requires { HasMore program.now m.old }
+    ensures { FinishesBy program.now m.old result m.new }
+{
+    // A step is left, so one of them moves.
+    let Some(p) = mover::mover(program, m) else {
+        unreachable!()
+    };
+    step_of(program, m, p)
 }

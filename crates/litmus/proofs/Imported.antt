@@ -2,20 +2,21 @@
 use mathlib.Core.Path.{◌≡◌, sym, ap, ◌∙◌, subst}
 use mathlib.Core.List.{List}
 use Prim.Native.Nat.{ℕ}
-use Rattle.model.specs.declared.answer.Answer.{Answer}
-use Rattle.model.specs.declared.answer.Answer.TheVariants as answer
-use Rattle.model.specs.declared.answer.Refusal.{Refusal}
+use Rattle.std.specs.Prelude.{Ok, Err}
+use Rattle.model.specs.declared.answer.Refused.{Refused}
+use Rattle.model.specs.Code.{Verdict, tested_of}
 use Rattle.model.specs.declared.record.Record.{Record}
 use Rattle.model.specs.Tests.{Tested, passed, refused, and_then}
-use Rattle.model.specs.Reply.{reply_of, refuse, number_of}
+use Rattle.model.specs.Reply.{Answer, reply_of, refuse, number_of}
 use Rattle.model.specs.Calls.{replied}
 use Rattle.model.proofs.Tests.{then-passed, then-refused}
 use Rattle.litmus_model.specs.Reader.{read_text}
 use Rattle.litmus_model.specs.Call.{tabled, placed, imported}
 use Rattle.litmus_model.proofs.Answers.{reads-exactly}
 use Rattle.litmus_model.proofs.Tables.{gives-table}
+use Rattle.litmus_reader.specs.declared.records.Records.{Records}
 use Rattle.litmus_reader.specs.Keeping.{Keeps}
-use Rattle.litmus_reader.specs.Forming.{answered_by, Counts, TextRead}
+use Rattle.litmus_reader.specs.Forming.{Counts, TextRead}
 use Rattle.litmus.specs.Tabled.{Tabled}
 
 module _ (text room : List ℕ) where
@@ -28,15 +29,13 @@ module _ (text room : List ℕ) where
   unfolding replied
   refused-text n i e = replies (refused n i) (then-refused (read_text text) tabled n i e)
 
-  of-records : (rs : List Record) → read_text text ≡ passed rs → (words : List ℕ) (n : ℕ) → Keeps words n rs
-      → (out : Answer) (after : List ℕ) → Tabled words n room out after → reply_of out after ≡ imported text room
-  of-records rs e words n k out after t =
+  of-records : (rs : List Record) → read_text text ≡ passed rs → (kept : Records) → Keeps kept rs → (out : Answer) (after : List ℕ) → Tabled kept room out after → reply_of out after ≡ imported text room
+  of-records rs e kept k out after t =
       t.each rs k (gives-table text rs ((reads-exactly text (passed rs)).0 e)).small ∙ replies (tabled rs) (then-passed (read_text text) tabled rs e)
 
-  module _ (out : Answer) (words : List ℕ) (t : TextRead text out words) where
-    pub text-refused : (why : Refusal) (place : ℕ) → out ≡ answer.Refused why place → refuse (number_of why) place room ≡ imported text room
-    text-refused why place e = refused-text (number_of why) place (t.says ∙ ap (λ (o : Answer). answered_by o t.rs) e)
+  module _ (out : Verdict) (kept : Records) (t : TextRead text out kept) where
+    pub text-refused : (r : Refused) → out ≡ Err r → refuse (number_of r.why) r.place room ≡ imported text room
+    text-refused r e = refused-text (number_of r.why) r.place (t.says ∙ ap (λ (o : Verdict). tested_of o t.rs) e)
 
-    pub text-tabled : (n : ℕ) → out ≡ answer.Done n → (last : Answer) (after : List ℕ) → Tabled words n room last after → reply_of last after ≡ imported text room
-    text-tabled n e last after x =
-        of-records t.rs (t.says ∙ ap (λ (o : Answer). answered_by o t.rs) e) words n (subst (λ (o : Answer). Counts o words t.rs) e t.counts) last after x
+    pub text-tabled : out ≡ Ok tt → (last : Answer) (after : List ℕ) → Tabled kept room last after → reply_of last after ≡ imported text room
+    text-tabled e last after x = of-records t.rs (t.says ∙ ap (λ (o : Verdict). tested_of o t.rs) e) kept (subst (λ (o : Verdict). Counts o kept t.rs) e t.counts) last after x

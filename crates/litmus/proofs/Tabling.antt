@@ -9,11 +9,9 @@ use lib.ListN.{length, take, drop, length-take, take-append-drop, length-map}
 use lib.Seq.{take_all, length-take-le}
 use lib.Dec.{leb}
 use borrow.Author.Tests.{leb-true, leb-false}
-use Rattle.model.specs.declared.answer.Answer.TheVariants as answer
-use Rattle.model.specs.declared.answer.Refusal.{Refusal}
+use Rattle.std.specs.Prelude.{Ok, Err}
+use Rattle.model.specs.declared.answer.Refused.{Refused}
 use Rattle.model.specs.declared.answer.Refusal.TheVariants.{RoomTooSmall}
-use Rattle.model.specs.declared.answer.Verdict.{Verdict}
-use Rattle.model.specs.declared.answer.Verdict.TheVariants as verdict
 use Rattle.model.specs.declared.record.Record.{Record}
 use Rattle.model.specs.Sizes.{record_size}
 use Rattle.model.specs.Lists.{All}
@@ -21,9 +19,9 @@ use Rattle.model.specs.Record.{records, file_of}
 use Rattle.model.specs.Kinds.{Entry, entry_of}
 use Rattle.model.specs.Tests.{Tested, passed, refused, in_order}
 use Rattle.model.specs.Reading.{read_record, reading}
-use Rattle.model.specs.Reply.{Reply, done, refuse, number_of}
+use Rattle.model.specs.Reply.{Reply, done, refuse, number_of, refusal_at}
 use Rattle.model.specs.Calls.{replied}
-use Rattle.model.specs.Code.{tested_of}
+use Rattle.model.specs.Code.{Verdict, tested_of}
 use Rattle.model.proofs.Bytes.{Small, records-file}
 use Rattle.model.proofs.InOrder.{in-order-refused, in-order-at, file-whole}
 use Rattle.model.proofs.Readable.{readable-sound}
@@ -34,6 +32,7 @@ use Rattle.model.proofs.Tests.{passed-refused, and-then-passed, and-then-refused
 use Rattle.model.proofs.Words.{file-length}
 use Rattle.record.specs.Words.{records_in}
 use Rattle.litmus_model.specs.Call.{tabled, placed}
+use Rattle.litmus_reader.specs.declared.records.Records.{Records}
 use Rattle.litmus_reader.specs.Keeping.{most, Keeps}
 use Rattle.litmus.specs.Tabled.{judged, Tabled}
 
@@ -71,7 +70,13 @@ take-least m n l e = go (leb m n) refl
     go true t = let h = leb-true m n t in take_all (min m n) l (omega arith) ∙ sym (take_all n l (omega arith))
     go false t = let h = leb-false m n t in let least : min m n ≡ n = omega arith in ap (λ (i : ℕ). take i l) least
 
-module _ (words : List ℕ) (n k : ℕ) (long : length words ≡ most) (cut : k ≡ min most n) where
+module _ (all_kept : Records) (k : ℕ) (long : length all_kept.words ≡ most) (cut : k ≡ min all_kept.count most) where
+  abbrev words : List ℕ
+  words = all_kept.words
+
+  abbrev n : ℕ
+  n = all_kept.count
+
   abbrev kept : List Record
   kept = records_in (take k words)
 
@@ -81,12 +86,12 @@ module _ (words : List ℕ) (n k : ℕ) (long : length words ≡ most) (cut : k 
   pub words-fit : (m : ℕ) → record_size * k ≤ m → length (take k words) * record_size ≤ m
   words-fit m l = omega (arith, words_long)
 
-  module _ (room : List ℕ) (rs : List Record) (keeps : Keeps words n rs) (small : All Small rs) where
+  module _ (room : List ℕ) (rs : List Record) (keeps : Keeps all_kept rs) (small : All Small rs) where
     abbrev reply : Reply
     reply = replied room (tabled rs) (placed room)
 
     first : kept ≡ take most rs
-    first = ap (λ (i : ℕ). records_in (take i words)) cut ∙ ap records_in (take-least most n words long) ∙ keeps.first
+    first = let c : k ≡ min most n = omega arith in ap (λ (i : ℕ). records_in (take i words)) c ∙ ap records_in (take-least most n words long) ∙ keeps.first
 
     -- 1 to 7
     refuses : (m i : ℕ) → refused m i ≡ judged kept → refuse m i room ≡ reply
@@ -139,15 +144,15 @@ module _ (words : List ℕ) (n k : ℕ) (long : length words ≡ most) (cut : k 
   -- ---- so the answer is right
 
   module _ (room : List ℕ) (v : Verdict) (says : tested_of v tt ≡ judged kept) where
-    pub refused-table : (why : Refusal) (place : ℕ) → v ≡ verdict.Refused why place → Tabled words n room (answer.Refused why place) room
-    refused-table why place e =
-        record { each = λ rs keeps small. refuses room rs keeps small (number_of why) place (ap (λ (w : Verdict). tested_of {A = Unit {0}} w tt) (sym e) ∙ says) }
+    pub refused-table : (r : Refused) → v ≡ Err r → Tabled all_kept room (Err r) room
+    refused-table r e =
+        record { each = λ rs keeps small. refuses room rs keeps small (number_of r.why) r.place (ap (λ (w : Verdict). tested_of {A = Unit {0}} w tt) (sym e) ∙ says) }
 
-    passing : v ≡ verdict.Passed → passed tt ≡ judged kept
+    passing : v ≡ Ok tt → passed tt ≡ judged kept
     passing e = ap (λ (w : Verdict). tested_of {A = Unit {0}} w tt) (sym e) ∙ says
 
-    pub room-too-small : v ≡ verdict.Passed → length room < record_size * k → Tabled words n room (answer.Refused RoomTooSmall (record_size * k)) room
+    pub room-too-small : v ≡ Ok tt → length room < record_size * k → Tabled all_kept room (Err (refusal_at RoomTooSmall (record_size * k))) room
     room-too-small e l = record { each = λ rs keeps small. too_small room rs keeps small (passing e) l }
 
-    pub room-filled : v ≡ verdict.Passed → record_size * k ≤ length room → (after : List ℕ) → after ≡ file_of kept ++ drop (length (take k words) * record_size) room → Tabled words n room (answer.Done n) after
+    pub room-filled : v ≡ Ok tt → record_size * k ≤ length room → (after : List ℕ) → after ≡ file_of kept ++ drop (length (take k words) * record_size) room → Tabled all_kept room (Ok n) after
     room-filled e l after a = record { each = λ rs keeps small. fills room rs keeps small (passing e) l after a }

@@ -12,8 +12,10 @@ use Rattle.litmus_model.specs.Forms.{Pattern, exactly, fits, Form, form}
 use Rattle.litmus_model.specs.Reader.{advance}
 use Rattle.litmus_model.proofs.Bools.{false-true, and_left, and_right}
 use Rattle.litmus_model.proofs.Forms.{in_right}
-use Rattle.litmus_form.specs.Flags.{pattern_at, form_codes, code_at, alive_on, Advanced, all_forms, alives, First}
-use Rattle.litmus_form.proofs.Alives.{padded, row-of, none, twelve, pattern-at, alive-forms}
+use Rattle.std.specs.Prelude.{Option, Some, None}
+use Rattle.litmus_form.specs.Patterns.{pattern_of}
+use Rattle.litmus_form.specs.Flags.{patterns, form_at, code_at, alive_on, Advanced, all_forms, alives, First}
+use Rattle.litmus_form.proofs.Alives.{padded, row-of, none, twelve, pattern-at, same-in-table, alive-forms}
 
 -- ---- which are alive
 
@@ -56,26 +58,28 @@ pub record Alive (mark j at : ℕ) (forms : List Form) (t : Token) : Type 0 wher
   pub is-kind : kind ≡ (get_or (all_forms mark) j none).kind
   pub is-rest : rest ≡ drop (suc at) (get_or (all_forms mark) j none).patterns
   pub more : at < length (get_or (all_forms mark) j none).patterns
-  pub among : In (form kind (pattern_at (code_at mark j at) ∷ rest)) forms
-  pub fitting : fits (pattern_at (code_at mark j at)) t ≡ true
+  pub among : In (form kind (pattern_of (code_at mark j at) ∷ rest)) forms
+  pub fitting : fits (pattern_of (code_at mark j at)) t ≡ true
 
 -- a form that is alive behind the token was so before, and the token fits its pattern
-pub first-alive : (alive next : List Bool) (mark at j b : ℕ) (t : Token) → map (row-of mark) form_codes ≡ map padded (all_forms mark) → length alive ≡ 12
-    → Advanced alive mark at (b ∷ t) next → First next j → j < 12 → Alive mark j at (alives (all_forms mark) alive at) (b ∷ t)
+pub first-alive : (alive next : List Bool) (mark at j b : ℕ) (t : Token) (r : Option ℕ) → map (row-of mark) patterns ≡ map padded (all_forms mark) → length alive ≡ 12
+    → Advanced alive mark at (b ∷ t) next → First next r → r ≡ Some j → Alive mark j at (alives (all_forms mark) alive at) (b ∷ t)
 unfolding alive_on
-first-alive alive next mark at j b t e l x first h =
+first-alive alive next mark at j b t r e l x first is =
     let w = twelve mark in
+    let found = first.found j is in
+    let h = found.0 in
     let f = get_or (all_forms mark) j none in
-    let both : get_or alive j false && fits (pattern_at (code_at mark j at)) (b ∷ t) ≡ true = sym (x.each j h) ∙ first.found h in
-    let fit : fits (pattern_at (code_at mark j at)) (b ∷ t) ≡ true = and_right (get_or alive j false) _ both in
-    let ahead : drop at f.patterns ≡ pattern_at (code_at mark j at) ∷ drop (suc at) f.patterns = left_at f.patterns (8 - length f.patterns) at _ b t (pattern-at mark j at e h) fit in
+    let both : get_or alive j false && fits (pattern_of (code_at mark j at)) (b ∷ t) ≡ true = sym (x.each j h) ∙ found.1 in
+    let fit : fits (pattern_of (code_at mark j at)) (b ∷ t) ≡ true = and_right (get_or alive j false) _ both in
+    let ahead : drop at f.patterns ≡ pattern_of (code_at mark j at) ∷ drop (suc at) f.patterns = left_at f.patterns (8 - length f.patterns) at _ b t (pattern-at mark j at e h) fit in
     record {
       kind = f.kind;
       rest = drop (suc at) f.patterns;
       is-kind = refl;
       is-rest = refl;
       more = below f.patterns ahead;
-      among = subst (λ (l : List Pattern). In (form f.kind l) (alives (all_forms mark) alive at)) ahead (alive-in (all_forms mark) alive at j (omega arith) (omega arith) (and_left _ (fits (pattern_at (code_at mark j at)) (b ∷ t)) both));
+      among = subst (λ (l : List Pattern). In (form f.kind l) (alives (all_forms mark) alive at)) ahead (alive-in (all_forms mark) alive at j (omega arith) (omega arith) (and_left _ (fits (pattern_of (code_at mark j at)) (b ∷ t)) both));
       fitting = fit;
     }
   where
@@ -83,26 +87,21 @@ first-alive alive next mark at j b t e l x first h =
     below ps k = let n = length-drop at ps in let m = ap length k in omega arith
 
 -- none is alive
-pub none-alive : (alive next : List Bool) (mark at b : ℕ) (t : Token) (j : ℕ) → map (row-of mark) form_codes ≡ map padded (all_forms mark) → length alive ≡ 12 → length next ≡ 12
-    → Advanced alive mark at (b ∷ t) next → First next j → 12 ≤ j → advance (alives (all_forms mark) alive at) (b ∷ t) ≡ []
-none-alive alive next mark at b t j e la ln x f h =
+pub none-alive : (alive next : List Bool) (mark at b : ℕ) (t : Token) (r : Option ℕ) → map (row-of mark) patterns ≡ map padded (all_forms mark) → length alive ≡ 12 → length next ≡ 12
+    → Advanced alive mark at (b ∷ t) next → First next r → r ≡ None → advance (alives (all_forms mark) alive at) (b ∷ t) ≡ []
+none-alive alive next mark at b t r e la ln x f h =
     let w = twelve mark in
-    alive-forms alive next mark at b t e la ln x ∙ none-of-them (all_forms mark) next (suc at) (omega arith) (λ k i. f.before k (omega arith))
+    alive-forms alive next mark at b t e la ln x ∙ none-of-them (all_forms mark) next (suc at) (omega arith) (λ k i. f.none h k (omega arith))
 
--- ---- kinds and lengths, in the table's order
+-- ---- kinds and lengths
 
-table-of-twelve : {A : Type 0} (g : Form → A) (d : A) (fs : List Form) (j : ℕ) → j < length fs → g (get_or fs j none) ≡ get_or (map g fs) j d
-table-of-twelve g d [] j h = absurd (omega arith)
-table-of-twelve g d (f ∷ fs) zero h = refl
-table-of-twelve g d (f ∷ fs) (suc j) h = table-of-twelve g d fs j (omega arith)
-
-pub kind_at : (mark j : ℕ) → j < 12 → (get_or (all_forms mark) j none).kind ≡ get_or (1 ∷ 2 ∷ 0 ∷ 3 ∷ 4 ∷ 5 ∷ 6 ∷ 7 ∷ 8 ∷ 9 ∷ 10 ∷ 11 ∷ []) j 0
+pub kind_at : (mark j : ℕ) → j < 12 → (get_or (all_forms mark) j none).kind ≡ (form_at j).kind
 unfolding all_forms
-kind_at mark j h = let w = twelve mark in table-of-twelve (λ (f : Form). f.kind) 0 (all_forms mark) j (omega arith)
+kind_at mark j h = sym (same-in-table (λ f. f.kind) (λ f. f.kind) mark j refl h)
 
-pub length_at : (mark j : ℕ) → j < 12 → length (get_or (all_forms mark) j none).patterns ≡ get_or (4 ∷ 6 ∷ 1 ∷ 7 ∷ 7 ∷ 7 ∷ 5 ∷ 2 ∷ 7 ∷ 8 ∷ 7 ∷ 8 ∷ []) j 0
+pub length_at : (mark j : ℕ) → j < 12 → length (get_or (all_forms mark) j none).patterns ≡ (form_at j).length
 unfolding all_forms
-length_at mark j h = let w = twelve mark in table-of-twelve (λ (f : Form). length f.patterns) 0 (all_forms mark) j (omega arith)
+length_at mark j h = sym (same-in-table (λ f. f.length) (λ f. length f.patterns) mark j refl h)
 
 -- no form is longer
 pub length_most : (mark j : ℕ) → j < 12 → length (get_or (all_forms mark) j none).patterns ≤ 8

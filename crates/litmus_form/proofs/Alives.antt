@@ -8,7 +8,12 @@ use lib.ListN.{length, get_or, drop, replicate}
 use Rattle.litmus_model.specs.Bytes.{Token, same}
 use Rattle.litmus_model.specs.Forms.{Pattern, exactly, fits, Form, form, cell_forms, row_forms}
 use Rattle.litmus_model.specs.Reader.{onward, advance}
-use Rattle.litmus_form.specs.Flags.{pattern_at, marked, form_codes, code_at, alive_on, Advanced, all_forms, alives}
+use Rattle.litmus_form.specs.declared.patterns.Pattern as code
+use Rattle.litmus_form.specs.declared.patterns.Pattern.TheVariants.{Past}
+use Rattle.litmus_form.specs.declared.forms.Form as table
+use Rattle.litmus_form.specs.Patterns.{pattern_of}
+use Rattle.litmus_form.specs.Flags as flags
+use Rattle.litmus_form.specs.Flags.{marked, forms, patterns, form_at, code_at, alive_on, Advanced, all_forms, alives}
 
 abbrev pub head_fits : List Pattern → Token → Bool
 head_fits [] t = false
@@ -52,15 +57,15 @@ advance-alives (f ∷ fs) (x ∷ alive) (y ∷ next) at t a n h = go x (h 0 (ome
 abbrev pub padded : Form → List Pattern
 padded f = f.patterns ++ replicate (8 - length f.patterns) (exactly [])
 
-abbrev pub row-of : ℕ → List ℕ → List Pattern
-row-of mark cs = map (λ (c : ℕ). pattern_at (marked mark c)) cs
+abbrev pub row-of : ℕ → List code.Pattern → List Pattern
+row-of mark cs = map (λ (c : code.Pattern). pattern_of (marked mark c)) cs
 
-pub table-semicolon : map (row-of 59) form_codes ≡ map padded (all_forms 59)
-unfolding pattern_at all_forms
+pub table-semicolon : map (row-of 59) patterns ≡ map padded (all_forms 59)
+unfolding pattern_of all_forms
 table-semicolon = refl
 
-pub table-bar : map (row-of 124) form_codes ≡ map padded (all_forms 124)
-unfolding pattern_at all_forms
+pub table-bar : map (row-of 124) patterns ≡ map padded (all_forms 124)
+unfolding pattern_of all_forms
 table-bar = refl
 
 -- padding fits no token
@@ -77,36 +82,43 @@ head-padded [] (suc n) (suc at) b t = head-padded [] n at b t ∙ ap (λ (l : Li
 head-padded (p ∷ ps) n zero b t = refl
 head-padded (p ∷ ps) n (suc at) b t = head-padded ps n at b t
 
-row_at : (mark : ℕ) (cs : List ℕ) (at : ℕ) → get_or (row-of mark cs) at (exactly []) ≡ pattern_at (marked mark (get_or cs at 0))
-unfolding pattern_at
+row_at : (mark : ℕ) (cs : List code.Pattern) (at : ℕ) → get_or (row-of mark cs) at (exactly []) ≡ pattern_of (marked mark (get_or cs at Past))
+unfolding pattern_of
 row_at mark [] at = refl
 row_at mark (c ∷ cs) zero = refl
 row_at mark (c ∷ cs) (suc at) = row_at mark cs at
 
-rows_at : {A : Type 0} (f : A → List Pattern) (l : List A) (d : A) (j : ℕ) → j < length l → get_or (map f l) j [] ≡ f (get_or l j d)
-rows_at f [] d j h = absurd (omega arith)
-rows_at f (x ∷ l) d zero h = refl
-rows_at f (x ∷ l) d (suc j) h = rows_at f l d j (omega arith)
+rows_at : {A B : Type 0} (f : A → B) (l : List A) (d : A) (e : B) (j : ℕ) → j < length l → get_or (map f l) j e ≡ f (get_or l j d)
+rows_at f [] d e j h = absurd (omega arith)
+rows_at f (x ∷ l) d e zero h = refl
+rows_at f (x ∷ l) d e (suc j) h = rows_at f l d e j (omega arith)
 
 pub twelve : (mark : ℕ) → length (all_forms mark) ≡ 12
 unfolding all_forms
 twelve mark = refl
 
--- pattern `at` of form j, by its number and in the table of forms
-pub pattern-at : (mark j at : ℕ) → map (row-of mark) form_codes ≡ map padded (all_forms mark) → j < 12 → get_or (padded (get_or (all_forms mark) j none)) at (exactly []) ≡ pattern_at (code_at mark j at)
+-- pattern `at` of form j, in the code's table and in that of forms
+pub pattern-at : (mark j at : ℕ) → map (row-of mark) patterns ≡ map padded (all_forms mark) → j < 12 → get_or (padded (get_or (all_forms mark) j none)) at (exactly []) ≡ pattern_of (code_at mark j at)
 pattern-at mark j at e h =
     let w = twelve mark in
-    sym (sym (row_at mark (get_or form_codes j []) at)
-    ∙ ap (λ (l : List Pattern). get_or l at (exactly [])) (sym (rows_at (row-of mark) form_codes [] j h) ∙ ap (λ (l : List (List Pattern)). get_or l j []) e ∙ rows_at padded (all_forms mark) none j (omega arith)))
+    sym (sym (row_at mark (get_or patterns j []) at)
+    ∙ ap (λ (l : List Pattern). get_or l at (exactly [])) (sym (rows_at (row-of mark) patterns [] [] j h) ∙ ap (λ (l : List (List Pattern)). get_or l j []) e ∙ rows_at padded (all_forms mark) none [] j (omega arith)))
 
-table_at : (mark j at : ℕ) (b : ℕ) (t : Token) → map (row-of mark) form_codes ≡ map padded (all_forms mark) → j < 12
-    → fits (pattern_at (code_at mark j at)) (b ∷ t) ≡ head_fits (drop at (get_or (all_forms mark) j none).patterns) (b ∷ t)
+-- and its kind and length
+pub same-in-table : {A : Type 0} (f : table.Form → A) (g : Form → A) (mark j : ℕ) → map f forms ≡ map g (all_forms mark) → j < 12 → f (form_at j) ≡ g (get_or (all_forms mark) j none)
+same-in-table f g mark j e h =
+    let w = twelve mark in
+    let d = g none in
+    sym (rows_at f forms (flags.form 0 0) d j h) ∙ ap (λ l. get_or l j d) e ∙ rows_at g (all_forms mark) none d j (omega arith)
+
+table_at : (mark j at : ℕ) (b : ℕ) (t : Token) → map (row-of mark) patterns ≡ map padded (all_forms mark) → j < 12
+    → fits (pattern_of (code_at mark j at)) (b ∷ t) ≡ head_fits (drop at (get_or (all_forms mark) j none).patterns) (b ∷ t)
 table_at mark j at b t e h =
     let f = get_or (all_forms mark) j none in
     ap (λ (p : Pattern). fits p (b ∷ t)) (sym (pattern-at mark j at e h)) ∙ head-padded f.patterns (8 - length f.patterns) at b t
 
 -- the code's array goes as the forms go
-pub alive-forms : (alive next : List Bool) (mark at : ℕ) (b : ℕ) (t : Token) → map (row-of mark) form_codes ≡ map padded (all_forms mark) → length alive ≡ 12 → length next ≡ 12
+pub alive-forms : (alive next : List Bool) (mark at : ℕ) (b : ℕ) (t : Token) → map (row-of mark) patterns ≡ map padded (all_forms mark) → length alive ≡ 12 → length next ≡ 12
     → Advanced alive mark at (b ∷ t) next → advance (alives (all_forms mark) alive at) (b ∷ t) ≡ alives (all_forms mark) next (suc at)
 unfolding alive_on
 alive-forms alive next mark at b t e la ln x =

@@ -1,71 +1,86 @@
--- What the code's numbers and flags stand for: patterns, and the forms that are alive.
-use Rattle.std.specs.Prelude.{◌≡◌, Bool, true, false, cond, ◌&&◌, List, [], ◌∷◌, ◌++◌, ℕ, ◌<◌, ◌≤◌, get_or, drop, eqb, leb}
+-- What the code's table and flags stand for: the forms, and those that are alive.
+use Rattle.std.specs.Prelude.{◌≡◌, Bool, true, false, cond, ◌&&◌, List, [], ◌∷◌, ◌++◌, ℕ, ◌<◌, get_or, drop, Option, Some, None}
 use Rattle.litmus_model.specs.Bytes.{Token}
-use Rattle.litmus_model.specs.Forms.{MOV, MFENCE, XCHG, XADD, LOCK, Pattern, exactly, location, register, processor, constant, dollar, fits, Form, form, cell_forms, row_forms}
+use Rattle.litmus_model.specs.Forms.{fits, cell_forms, row_forms}
+use Rattle.litmus_model.specs.Forms as model
+use Rattle.litmus_form.specs.declared.forms.Form.{Form}
+use Rattle.litmus_form.specs.declared.patterns.Pattern.{Pattern}
+use Rattle.litmus_form.specs.declared.patterns.Pattern.TheVariants.{Mov, Mfence, Xchg, Xadd, Lock, Location, Register, Processor, Constant, Dollar, Mark, Closing, Past}
+use Rattle.litmus_form.specs.Patterns.{pattern_of}
 
--- ---- patterns by their numbers: a mark by its byte
+-- ---- the table
 
-unfoldable pub pattern_at : ℕ → Pattern
-pattern_at code =
-    cond (leb 32 code) (exactly (code ∷ []))
-    (cond (eqb code 1) (exactly MOV)
-    (cond (eqb code 2) (exactly MFENCE)
-    (cond (eqb code 3) (exactly XCHG)
-    (cond (eqb code 4) (exactly XADD)
-    (cond (eqb code 5) (exactly LOCK)
-    (cond (eqb code 6) location
-    (cond (eqb code 7) register
-    (cond (eqb code 8) processor
-    (cond (eqb code 9) constant
-    (cond (eqb code 10) dollar
-    (exactly [])))))))))))
+-- the mark that closes a cell
+abbrev pub marked : ℕ → Pattern → Pattern
+marked mark Closing = Mark mark
+marked mark p = p
 
--- 11 is the mark that closes a cell
-abbrev pub marked : ℕ → ℕ → ℕ
-marked mark code = cond (eqb code 11) mark code
+abbrev pub form : ℕ → ℕ → Form
+form kind length = record { kind = kind; length = length }
 
--- the forms of initial cells, then those of a row's cells, each padded with zeros
-abbrev pub form_codes : List (List ℕ)
-form_codes =
-    (6 ∷ 61 ∷ 9 ∷ 59 ∷ 0 ∷ 0 ∷ 0 ∷ 0 ∷ [])
-    ∷ (8 ∷ 58 ∷ 7 ∷ 61 ∷ 9 ∷ 59 ∷ 0 ∷ 0 ∷ [])
-    ∷ (11 ∷ 0 ∷ 0 ∷ 0 ∷ 0 ∷ 0 ∷ 0 ∷ 0 ∷ [])
-    ∷ (1 ∷ 91 ∷ 6 ∷ 93 ∷ 44 ∷ 10 ∷ 11 ∷ 0 ∷ [])
-    ∷ (1 ∷ 91 ∷ 6 ∷ 93 ∷ 44 ∷ 7 ∷ 11 ∷ 0 ∷ [])
-    ∷ (1 ∷ 7 ∷ 44 ∷ 91 ∷ 6 ∷ 93 ∷ 11 ∷ 0 ∷ [])
-    ∷ (1 ∷ 7 ∷ 44 ∷ 10 ∷ 11 ∷ 0 ∷ 0 ∷ 0 ∷ [])
-    ∷ (2 ∷ 11 ∷ 0 ∷ 0 ∷ 0 ∷ 0 ∷ 0 ∷ 0 ∷ [])
-    ∷ (3 ∷ 91 ∷ 6 ∷ 93 ∷ 44 ∷ 7 ∷ 11 ∷ 0 ∷ [])
-    ∷ (5 ∷ 3 ∷ 91 ∷ 6 ∷ 93 ∷ 44 ∷ 7 ∷ 11 ∷ [])
-    ∷ (4 ∷ 91 ∷ 6 ∷ 93 ∷ 44 ∷ 7 ∷ 11 ∷ 0 ∷ [])
-    ∷ (5 ∷ 4 ∷ 91 ∷ 6 ∷ 93 ∷ 44 ∷ 7 ∷ 11 ∷ [])
+-- the forms of initial cells, then those of a row's cells: the kind of the record, and how many tokens
+abbrev pub forms : List Form
+forms =
+    form 1 4
+    ∷ form 2 6
+    ∷ form 0 1
+    ∷ form 3 7
+    ∷ form 4 7
+    ∷ form 5 7
+    ∷ form 6 5
+    ∷ form 7 2
+    ∷ form 8 7
+    ∷ form 9 8
+    ∷ form 10 7
+    ∷ form 11 8
     ∷ []
 
-abbrev pub code_at : ℕ → ℕ → ℕ → ℕ
-code_at mark j at = marked mark (get_or (get_or form_codes j []) at 0)
+-- and what the tokens may be, filled up behind the end
+abbrev pub patterns : List (List Pattern)
+patterns =
+    (Location ∷ Mark 61 ∷ Constant ∷ Mark 59 ∷ Past ∷ Past ∷ Past ∷ Past ∷ [])
+    ∷ (Processor ∷ Mark 58 ∷ Register ∷ Mark 61 ∷ Constant ∷ Mark 59 ∷ Past ∷ Past ∷ [])
+    ∷ (Closing ∷ Past ∷ Past ∷ Past ∷ Past ∷ Past ∷ Past ∷ Past ∷ [])
+    ∷ (Mov ∷ Mark 91 ∷ Location ∷ Mark 93 ∷ Mark 44 ∷ Dollar ∷ Closing ∷ Past ∷ [])
+    ∷ (Mov ∷ Mark 91 ∷ Location ∷ Mark 93 ∷ Mark 44 ∷ Register ∷ Closing ∷ Past ∷ [])
+    ∷ (Mov ∷ Register ∷ Mark 44 ∷ Mark 91 ∷ Location ∷ Mark 93 ∷ Closing ∷ Past ∷ [])
+    ∷ (Mov ∷ Register ∷ Mark 44 ∷ Dollar ∷ Closing ∷ Past ∷ Past ∷ Past ∷ [])
+    ∷ (Mfence ∷ Closing ∷ Past ∷ Past ∷ Past ∷ Past ∷ Past ∷ Past ∷ [])
+    ∷ (Xchg ∷ Mark 91 ∷ Location ∷ Mark 93 ∷ Mark 44 ∷ Register ∷ Closing ∷ Past ∷ [])
+    ∷ (Lock ∷ Xchg ∷ Mark 91 ∷ Location ∷ Mark 93 ∷ Mark 44 ∷ Register ∷ Closing ∷ [])
+    ∷ (Xadd ∷ Mark 91 ∷ Location ∷ Mark 93 ∷ Mark 44 ∷ Register ∷ Closing ∷ Past ∷ [])
+    ∷ (Lock ∷ Xadd ∷ Mark 91 ∷ Location ∷ Mark 93 ∷ Mark 44 ∷ Register ∷ Closing ∷ [])
+    ∷ []
+
+abbrev pub form_at : ℕ → Form
+form_at j = get_or forms j (form 0 0)
+
+abbrev pub code_at : ℕ → ℕ → ℕ → Pattern
+code_at mark j at = marked mark (get_or (get_or patterns j []) at Past)
+
+-- ---- which are alive
 
 -- form j is alive still, if it was and the token fits it
 unfoldable pub alive_on : List Bool → ℕ → ℕ → Token → ℕ → Bool
-unfolding pattern_at fits
-alive_on alive mark at t j = get_or alive j false && fits (pattern_at (code_at mark j at)) t
+unfolding pattern_of fits
+alive_on alive mark at t j = get_or alive j false && fits (pattern_of (code_at mark j at)) t
 
 -- all of them
 pub record Advanced (alive : List Bool) (mark at : ℕ) (t : Token) (next : List Bool) : Type 0 where
   pub each : (j : ℕ) → j < 12 → get_or next j false ≡ alive_on alive mark at t j
 
 -- the forms in that order
-unfoldable pub all_forms : ℕ → List Form
+unfoldable pub all_forms : ℕ → List model.Form
 unfolding cell_forms row_forms
 all_forms mark = cell_forms ++ row_forms (mark ∷ [])
 
 -- those alive, behind `at` tokens
-unfoldable pub alives : List Form → List Bool → ℕ → List Form
+unfoldable pub alives : List model.Form → List Bool → ℕ → List model.Form
 alives [] alive at = []
 alives (f ∷ fs) [] at = []
-alives (f ∷ fs) (a ∷ as₁) at = cond a (form f.kind (drop at f.patterns) ∷ []) [] ++ alives fs as₁ at
+alives (f ∷ fs) (a ∷ as₁) at = cond a (model.form f.kind (drop at f.patterns) ∷ []) [] ++ alives fs as₁ at
 
--- the first form that is alive, or 12
-pub record First (alive : List Bool) (r : ℕ) : Type 0 where
-  pub low : r ≤ 12
-  pub found : r < 12 → get_or alive r false ≡ true
-  pub before : (j : ℕ) → j < r → get_or alive j false ≡ false
+-- the first form that is alive, if one is
+pub record First (alive : List Bool) (r : Option ℕ) : Type 0 where
+  pub found : (j : ℕ) → r ≡ Some j → (j < 12) × (get_or alive j false ≡ true) × ((k : ℕ) → k < j → get_or alive k false ≡ false)
+  pub none : r ≡ None → (k : ℕ) → k < 12 → get_or alive k false ≡ false

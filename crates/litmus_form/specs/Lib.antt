@@ -1,2 +1,3 @@
+pub mod Patterns
 pub mod Flags
 pub mod Places

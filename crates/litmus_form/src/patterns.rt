@@ -1,63 +1,69 @@
-// What may stand at a place of a form, by a number: a mark is its byte.
+// What may stand at a place of a form.
 ghost use Rattle.std.specs.Prelude.{[], ◌∷◌, ◌≡◌};
 ghost use Rattle.litmus_model.specs.Bytes.{same};
 ghost use Rattle.litmus_model.specs.Forms.{fits};
-ghost use Rattle.litmus_form.specs.Flags.{pattern_at};
+ghost use Rattle.litmus_form.specs.Patterns.{pattern_of};
 
 use litmus_token::tokens::{is_constant, is_dollar, is_number};
 use litmus_token::words::{is_location, is_register, same_bytes};
 
-pub const MOV: u8 = 1;
-
-pub const MFENCE: u8 = 2;
-
-pub const XCHG: u8 = 3;
-
-pub const XADD: u8 = 4;
-
-pub const LOCK: u8 = 5;
-
-pub const LOCATION: u8 = 6;
-
-pub const REGISTER: u8 = 7;
-
-pub const PROCESSOR: u8 = 8;
-
-pub const CONSTANT: u8 = 9;
-
-pub const DOLLAR: u8 = 10;
-
-// The mark that closes a row's cell.
-pub const MARK: u8 = 11;
+#[derive(Clone, Copy)]
+pub enum Pattern {
+    Mov,
+    Mfence,
+    Xchg,
+    Xadd,
+    Lock,
+    Location,
+    Register,
+    Processor,
+    Constant,
+    Dollar,
+    // A mark, by its byte.
+    Mark(u8),
+    // The mark that closes a row's cell, before it is known which.
+    Closing,
+    // Behind a form's last token.
+    Past,
+}
 
 // The mark b, and nothing else.
 pub fn is_mark(b: u8, t: &[u8]) -> bool
     ensures { result ≡ same (b ∷ []) t.now }
 {
-    if t.len() != 1 {
-        return false;
-    }
-    b == t[0]
+    same_bytes(&[b], t)
 }
 
-// The token fits the pattern of that number.
-pub fn fits_code(code: u8, t: &[u8]) -> bool
-    ensures { result ≡ fits (pattern_at code) t.now }
-{
-    if 32 <= code {
-        return is_mark(code, t);
+impl Pattern {
+    // The token may stand there. Most patterns are marks, and those are told by a branch of their own: in one jump with the others reading takes a quarter longer.
+    #[tactic(auto, using(crate::proofs::Codes::none_same), unfolding(crate::specs::Patterns::pattern_of, litmus_model::specs::Forms::fits))]
+    pub fn fits(self, t: &[u8]) -> bool
+        ensures { result ≡ fits (pattern_of self) t.now }
+    {
+        if let Pattern::Mark(b) = self {
+            return is_mark(b, t);
+        }
+        self.fits_word(t)
     }
-    match code {
-        MOV => same_bytes(b"MOV", t),
-        MFENCE => same_bytes(b"MFENCE", t),
-        XCHG => same_bytes(b"XCHG", t),
-        XADD => same_bytes(b"XADD", t),
-        LOCK => same_bytes(b"LOCK", t),
-        LOCATION => is_location(t),
-        REGISTER => is_register(t),
-        PROCESSOR => is_number(t),
-        CONSTANT => is_constant(t),
-        DOLLAR => is_dollar(t),
-        _ => t.len() == 0,
+
+    #[tactic(auto, using(crate::proofs::Codes::none_same), unfolding(crate::specs::Patterns::pattern_of, litmus_model::specs::Forms::fits))]
+    #[inline(never)]
+    fn fits_word(self, t: &[u8]) -> bool
+        ensures { result ≡ fits (pattern_of self) t.now }
+    {
+        match self {
+            Pattern::Mov => same_bytes(b"MOV", t),
+            Pattern::Mfence => same_bytes(b"MFENCE", t),
+            Pattern::Xchg => same_bytes(b"XCHG", t),
+            Pattern::Xadd => same_bytes(b"XADD", t),
+            Pattern::Lock => same_bytes(b"LOCK", t),
+            Pattern::Location => is_location(t),
+            Pattern::Register => is_register(t),
+            Pattern::Processor => is_number(t),
+            Pattern::Constant => is_constant(t),
+            Pattern::Dollar => is_dollar(t),
+            Pattern::Mark(b) => is_mark(b, t),
+            Pattern::Closing | Pattern::Past => t.is_empty(),
+        }
     }
 }

@@ -18,7 +18,7 @@ use Rattle.litmus_model.specs.Answers.{seen_on, record_of}
 use Rattle.litmus_model.specs.Reader.{advance, mention_in, judged, progress, Context, forms_in, draft_in, next, beginning, within, stuck, went, on_with, step, fault, is_at_end, carried}
 use Rattle.litmus_model.proofs.Forms.{Separate, separate-on}
 use Rattle.litmus_model.proofs.Progress.{progress-last, progress-more, forms-separate}
-use Rattle.litmus_token.specs.declared.next.Span.{Span}
+use Rattle.std.specs.declared.ops.Range.{Range}
 use Rattle.litmus_token.specs.Spans.{part_of, Unnamed, Spans, ended, token}
 use Rattle.litmus_form.specs.declared.place.Place.{Place}
 use Rattle.litmus_form.specs.Flags.{all_forms, alives}
@@ -41,7 +41,7 @@ pub record Reading (text : List ℕ) (start : ℕ) (place : Place) (before seen 
 blank-draft : (place : Place) (seen : List ℕ) → blank_in place ≡ underway seen (draft_in (context_of place))
 unfolding record_of draft_in
 blank-draft Place.Braces seen = refl
-blank-draft (Place.Row n p) seen = refl
+blank-draft (Place.Row c) seen = refl
 
 pub begin : (text : List ℕ) (start : ℕ) (place : Place) (seen : List ℕ) (alive : List Bool) (r : Record) → alive ≡ flags_in place → r ≡ blank_in place → Reading text start place seen seen alive r start 0
 begin text start place seen alive r a b =
@@ -58,11 +58,11 @@ begin text start place seen alive r a b =
 behind-name : Unnamed 2
 behind-name e = omega arith
 
-pub there : (text : List ℕ) (at : ℕ) (s : Span) → Spans Unnamed text at s → s.from < length text → (b : ℕ) × (t : Token) × (part_of text s ≡ b ∷ t)
+pub there : (text : List ℕ) (at : ℕ) (s : Range ℕ) → Spans Unnamed text at s → s.start < length text → (b : ℕ) × (t : Token) × (part_of text s ≡ b ∷ t)
 there text at s (ended f t n) h = absurd (omega arith)
 there text at s (token a b l n) h =
-    let m : s.to - s.from ≡ suc (s.to - suc s.from) = omega arith in
-    (get_or text s.from 0, take (s.to - suc s.from) (drop (suc s.from) text), ap (λ (k : ℕ). take k (drop s.from text)) m ∙ ap (take (suc (s.to - suc s.from))) (drop-cons text s.from 0 h))
+    let m : s.end - s.start ≡ suc (s.end - suc s.start) = omega arith in
+    (get_or text s.start 0, take (s.end - suc s.start) (drop (suc s.start) text), ap (λ (k : ℕ). take k (drop s.start text)) m ∙ ap (take (suc (s.end - suc s.start))) (drop-cons text s.start 0 h))
 
 not-nothing : {b : ℕ} {t u : Token} → u ≡ b ∷ t → ¬ (u ≡ [])
 not-nothing {b} {t} e z = let w : ◌≡◌ {A = Token} (b ∷ t) [] = sym e ∙ z in let v : ◌≡◌ {A = ℕ} 0 1 = cc in omega arith
@@ -92,7 +92,7 @@ unless-some o n i a e = rw e
 -- ---- one more token
 
 module _ (text : List ℕ) (start : ℕ) (place : Place) (before seen : List ℕ) (alive : List Bool) (r : Record) (at i : ℕ)
-    (reading : Reading text start place before seen alive r at i) (s : Span) (stands : Spans Unnamed text at s) where
+    (reading : Reading text start place before seen alive r at i) (s : Range ℕ) (stands : Spans Unnamed text at s) where
   abbrev forms : List Form
   forms = alives (all_forms (mark_in place)) alive i
 
@@ -100,49 +100,49 @@ module _ (text : List ℕ) (start : ℕ) (place : Place) (before seen : List ℕ
   here = part_of text s
 
   -- the text ends
-  pub cell-unended : length text ≤ s.from → (rs : List Record) → answer text start (in_form place) before rs ≡ refused 19 s.from
+  pub cell-unended : length text ≤ s.start → (rs : List Record) → answer text start (in_form place) before rs ≡ refused 19 s.start
   unfolding is_at_end
   cell-unended e rs = reading.says rs ∙ ended_at 2 text at s (within (context_of place) forms reading.draft) seen rs stands behind-name e refl
 
   -- no form goes on with it
-  pub cell-none : advance forms here ≡ [] → (rs : List Record) → answer text start (in_form place) before rs ≡ refused 19 s.from
+  pub cell-none : advance forms here ≡ [] → (rs : List Record) → answer text start (in_form place) before rs ≡ refused 19 s.start
   unfolding is_at_end
   cell-none e rs = reading.says rs ∙ refused-at 2 text at s (within (context_of place) forms reading.draft) seen rs stands behind-name refl (step-none (context_of place) forms reading.draft here e)
 
   -- it says something wrong
   pub cell-wrong : (k : ℕ) (p : Pattern) (ps : List Pattern) (n : ℕ) → In (form k (p ∷ ps)) forms → fits p here ≡ true → ¬ (here ≡ []) → fault seen (mention p here) ≡ some n
-      → (rs : List Record) → answer text start (in_form place) before rs ≡ refused n s.from
+      → (rs : List Record) → answer text start (in_form place) before rs ≡ refused n s.start
   cell-wrong k p [] n a f e w rs =
       reading.says rs
       ∙ went-at 2 text at s _ seen rs _ (mention p here) _ stands behind-name e (step-last (context_of place) forms reading.draft here k p reading.separate a f)
-      ∙ unless-some (fault seen (mention p here)) n s.from _ w
+      ∙ unless-some (fault seen (mention p here)) n s.start _ w
   cell-wrong k p (q ∷ ps) n a f e w rs =
       reading.says rs
       ∙ went-at 2 text at s _ seen rs _ (mention p here) _ stands behind-name e (step-more (context_of place) forms reading.draft here k p q ps reading.separate a f)
-      ∙ unless-some (fault seen (mention p here)) n s.from _ w
+      ∙ unless-some (fault seen (mention p here)) n s.start _ w
 
   -- it closes a form
   pub cell-closed : (k : ℕ) (p : Pattern) → In (form k (p ∷ [])) forms → fits p here ≡ true → ¬ (here ≡ []) → fault seen (mention p here) ≡ none
       → (rs : List Record) → answer text start (in_form place) before rs
-      ≡ answer text s.to (beginning (next (context_of place))) (seen_on seen (mention p here)) (rs ++ map (record_of (seen_on seen (mention p here))) (entries k (noted reading.draft (mention p here))))
+      ≡ answer text s.end (beginning (next (context_of place))) (seen_on seen (mention p here)) (rs ++ map (record_of (seen_on seen (mention p here))) (entries k (noted reading.draft (mention p here))))
   cell-closed k p a f e w rs =
       reading.says rs
       ∙ went-at 2 text at s _ seen rs _ (mention p here) _ stands behind-name e (step-last (context_of place) forms reading.draft here k p reading.separate a f)
-      ∙ unless-none (fault seen (mention p here)) s.from _ w
-      ∙ ap (carried (length text) (beginning (next (context_of place))) (seen_on seen (mention p here)) (rs ++ map (record_of (seen_on seen (mention p here))) (entries k (noted reading.draft (mention p here))))) (later 1 text s.to)
+      ∙ unless-none (fault seen (mention p here)) s.start _ w
+      ∙ ap (carried (length text) (beginning (next (context_of place))) (seen_on seen (mention p here)) (rs ++ map (record_of (seen_on seen (mention p here))) (entries k (noted reading.draft (mention p here))))) (later 1 text s.end)
 
   -- or goes on in one
   pub cell-on : (k : ℕ) (p q : Pattern) (ps : List Pattern) (left : List Bool) (r₁ : Record) → In (form k (p ∷ q ∷ ps)) forms → fits p here ≡ true → ¬ (here ≡ []) → fault seen (mention p here) ≡ none
       → advance forms here ≡ alives (all_forms (mark_in place)) left (suc i) → r₁ ≡ underway (seen_on seen (mention p here)) (noted reading.draft (mention p here))
-      → Reading text start place before (seen_on seen (mention p here)) left r₁ s.to (suc i)
+      → Reading text start place before (seen_on seen (mention p here)) left r₁ s.end (suc i)
   cell-on k p q ps left r₁ a f e w on same =
       record {
         draft = noted reading.draft (mention p here);
         says = λ rs.
             reading.says rs
             ∙ went-at 2 text at s _ seen rs _ (mention p here) _ stands behind-name e (step-more (context_of place) forms reading.draft here k p q ps reading.separate a f)
-            ∙ unless-none (fault seen (mention p here)) s.from _ w
-            ∙ (λ x. carried (length text) (within (context_of place) (on x) (noted reading.draft (mention p here))) (seen_on seen (mention p here)) (append-nil rs x) (later 1 text s.to x));
+            ∙ unless-none (fault seen (mention p here)) s.start _ w
+            ∙ (λ x. carried (length text) (within (context_of place) (on x) (noted reading.draft (mention p here))) (seen_on seen (mention p here)) (append-nil rs x) (later 1 text s.end x));
         separate = subst Separate on (separate-on forms here reading.separate);
         record_is = same;
       }

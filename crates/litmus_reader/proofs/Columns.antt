@@ -1,12 +1,11 @@
 -- The headings, token by token.
 use mathlib.Core.Path.{◌≡◌, refl, ap, sym, ◌∙◌}
-use mathlib.Core.Bool.{Bool, true, false, cond, ◌&&◌}
+use mathlib.Core.Bool.{Bool, true, false, cond}
 use mathlib.Core.Option.{Option, none, some}
 use mathlib.Core.List.{List, [], ◌∷◌, append-nil}
 use Prim.Native.Nat.{ℕ, suc, ◌+◌, ◌/◌, ◌%◌, ◌≤◌, ◌<◌}
 use native.Mathlib.Omega.{arith}
-use lib.ListN.{length, get_or}
-use lib.Dec.{eqb}
+use lib.ListN.{length}
 use borrow.Author.Tests.{lt-ltb, lt-leb}
 use Rattle.model.specs.declared.record.Record.{Record}
 use Rattle.model.specs.Tests.{refused, unless}
@@ -15,8 +14,7 @@ use Rattle.litmus_model.specs.Forms.{semicolon, bar, a_processor, decimal_from, 
 use Rattle.litmus_model.specs.Answers.{seen_on}
 use Rattle.litmus_model.specs.Reader.{row, at_heading, behind_heading, beginning, step, fault, is_at_end, carried}
 use Rattle.litmus_model.proofs.Bools.{same_true}
-use Rattle.litmus_token.proofs.Scan.{same-lengths}
-use Rattle.litmus_token.specs.declared.next.Span.{Span}
+use Rattle.std.specs.declared.ops.Range.{Range}
 use Rattle.litmus_token.specs.Spans.{part_of, Unnamed, Spans}
 use Rattle.litmus_reader.specs.Passing.{answer}
 use Rattle.litmus_reader.proofs.Steps.{refused-at, went-at, plain_at, not-empty, later}
@@ -27,33 +25,19 @@ heading-two : (n : ℕ) → n ≤ 4 → heading n ≡ 80 ∷ (48 + n) ∷ []
 unfolding heading decimal_from
 heading-two n h = ap (λ (b : Bool). 80 ∷ cond b ((48 + n) ∷ []) (decimal_from n (n / 10) ((48 + n % 10) ∷ []))) (lt-ltb n 10 (omega arith))
 
-same-two : (a b : ℕ) (t : Token) → length t ≡ 2 → eqb a (get_or t 0 0) && eqb b (get_or t 1 0) ≡ same (a ∷ b ∷ []) t
-unfolding same
-same-two a b [] h = absurd (omega arith)
-same-two a b (x ∷ []) h = absurd (omega arith)
-same-two a b (x ∷ y ∷ []) h = ap (λ (z : Bool). eqb a x && z) (last (eqb b y))
-  where
-    last : (z : Bool) → z ≡ z && true
-    last true = refl
-    last false = refl
-same-two a b (x ∷ y ∷ z ∷ t) h = absurd (omega arith)
-
-pub is-heading : (n : ℕ) (t : Token) → n ≤ 4 → length t ≡ 2 → eqb 80 (get_or t 0 0) && eqb (48 + n) (get_or t 1 0) ≡ same (heading n) t
-is-heading n t h l = same-two 80 (48 + n) t l ∙ ap (λ (w : Token). same w t) (sym (heading-two n h))
-
-pub no-heading : (n : ℕ) (t : Token) → n ≤ 4 → (length t ≡ 2 → ⊥) → false ≡ same (heading n) t
-no-heading n t h l = sym (same-lengths (heading n) t (λ e. l (sym e ∙ ap length (heading-two n h))))
+pub is-heading : (n : ℕ) (t : Token) → n ≤ 4 → same (80 ∷ (48 + n) ∷ []) t ≡ same (heading n) t
+is-heading n t h = ap (λ (w : Token). same w t) (sym (heading-two n h))
 
 -- ---- the tokens
 
 behind-name : Unnamed 2
 behind-name e = omega arith
 
-abbrev Stands : List ℕ → ℕ → Span → Type 0
+abbrev Stands : List ℕ → ℕ → Range ℕ → Type 0
 Stands text at s = Spans Unnamed text at s
 
-pub heading-refused : (text : List ℕ) (at n : ℕ) (s : Span) (seen : List ℕ) (rs : List Record) → Stands text at s → same (heading n) (part_of text s) ≡ false
-    → answer text at (at_heading n) seen rs ≡ refused 19 s.from
+pub heading-refused : (text : List ℕ) (at n : ℕ) (s : Range ℕ) (seen : List ℕ) (rs : List Record) → Stands text at s → same (heading n) (part_of text s) ≡ false
+    → answer text at (at_heading n) seen rs ≡ refused 19 s.start
 unfolding step is_at_end
 heading-refused text at n s seen rs sp e = refused-at 2 text at s (at_heading n) seen rs sp behind-name refl (rw e)
 
@@ -61,23 +45,23 @@ heading-there : (n : ℕ) (t : Token) → same (heading n) t ≡ true → ¬ (t 
 unfolding heading
 heading-there n t e = not-empty 80 (decimal_from (suc n) n []) t e
 
-heading-went : (text : List ℕ) (at n : ℕ) (s : Span) (seen : List ℕ) (rs : List Record) → Stands text at s → same (heading n) (part_of text s) ≡ true
-    → answer text at (at_heading n) seen rs ≡ unless (fault seen (a_processor n)) s.from (answer text s.to (behind_heading (suc n)) seen rs)
+heading-went : (text : List ℕ) (at n : ℕ) (s : Range ℕ) (seen : List ℕ) (rs : List Record) → Stands text at s → same (heading n) (part_of text s) ≡ true
+    → answer text at (at_heading n) seen rs ≡ unless (fault seen (a_processor n)) s.start (answer text s.end (behind_heading (suc n)) seen rs)
 unfolding step seen_on
 heading-went text at n s seen rs sp e =
     went-at 2 text at s (at_heading n) seen rs (behind_heading (suc n)) (a_processor n) [] sp behind-name (heading-there n _ e) (rw e)
-    ∙ ap (unless (fault seen (a_processor n)) s.from) ((λ i. carried (length text) (behind_heading (suc n)) seen (append-nil rs i) (later 1 text s.to i)))
+    ∙ ap (unless (fault seen (a_processor n)) s.start) ((λ i. carried (length text) (behind_heading (suc n)) seen (append-nil rs i) (later 1 text s.end i)))
 
-pub heading-fifth : (text : List ℕ) (at n : ℕ) (s : Span) (seen : List ℕ) (rs : List Record) → Stands text at s → same (heading n) (part_of text s) ≡ true → n ≡ 4
-    → answer text at (at_heading n) seen rs ≡ refused 20 s.from
+pub heading-fifth : (text : List ℕ) (at n : ℕ) (s : Range ℕ) (seen : List ℕ) (rs : List Record) → Stands text at s → same (heading n) (part_of text s) ≡ true → n ≡ 4
+    → answer text at (at_heading n) seen rs ≡ refused 20 s.start
 unfolding fault unless
-heading-fifth text at n s seen rs sp e f = heading-went text at n s seen rs sp e ∙ ap (λ (k : ℕ). unless (fault seen (a_processor k)) s.from (answer text s.to (behind_heading (suc n)) seen rs)) f
+heading-fifth text at n s seen rs sp e f = heading-went text at n s seen rs sp e ∙ ap (λ (k : ℕ). unless (fault seen (a_processor k)) s.start (answer text s.end (behind_heading (suc n)) seen rs)) f
 
-pub heading-on : (text : List ℕ) (at n : ℕ) (s : Span) (seen : List ℕ) (rs : List Record) → Stands text at s → same (heading n) (part_of text s) ≡ true → n < 4
-    → answer text at (at_heading n) seen rs ≡ answer text s.to (behind_heading (suc n)) seen rs
+pub heading-on : (text : List ℕ) (at n : ℕ) (s : Range ℕ) (seen : List ℕ) (rs : List Record) → Stands text at s → same (heading n) (part_of text s) ≡ true → n < 4
+    → answer text at (at_heading n) seen rs ≡ answer text s.end (behind_heading (suc n)) seen rs
 unfolding fault unless
 heading-on text at n s seen rs sp e f =
-    heading-went text at n s seen rs sp e ∙ ap (λ (b : Bool). unless (cond {A = Option ℕ} b (some 20) none) s.from (answer text s.to (behind_heading (suc n)) seen rs)) (lt-leb 4 n f)
+    heading-went text at n s seen rs sp e ∙ ap (λ (b : Bool). unless (cond {A = Option ℕ} b (some 20) none) s.start (answer text s.end (behind_heading (suc n)) seen rs)) (lt-leb 4 n f)
 
 -- ---- and the mark behind it
 
@@ -85,19 +69,19 @@ no-bar : (t : Token) → same semicolon t ≡ true → same bar t ≡ false
 unfolding same
 no-bar t e = ap (same bar) (sym (same_true semicolon t e))
 
-pub semicolon-on : (text : List ℕ) (at n : ℕ) (s : Span) (seen : List ℕ) (rs : List Record) → Stands text at s → same semicolon (part_of text s) ≡ true
-    → answer text at (behind_heading n) seen rs ≡ answer text s.to (beginning (row n 0)) seen rs
+pub semicolon-on : (text : List ℕ) (at n : ℕ) (s : Range ℕ) (seen : List ℕ) (rs : List Record) → Stands text at s → same semicolon (part_of text s) ≡ true
+    → answer text at (behind_heading n) seen rs ≡ answer text s.end (beginning (row n 0)) seen rs
 unfolding step
 semicolon-on text at n s seen rs sp e =
-    plain_at 2 text at s (behind_heading n) seen rs (beginning (row n 0)) sp behind-name (not-empty 59 [] _ e) (rw (no-bar _ e, e)) ∙ ap (carried (length text) (beginning (row n 0)) seen rs) (later 1 text s.to)
+    plain_at 2 text at s (behind_heading n) seen rs (beginning (row n 0)) sp behind-name (not-empty 59 [] _ e) (rw (no-bar _ e, e)) ∙ ap (carried (length text) (beginning (row n 0)) seen rs) (later 1 text s.end)
 
-pub bar-on : (text : List ℕ) (at n : ℕ) (s : Span) (seen : List ℕ) (rs : List Record) → Stands text at s → same bar (part_of text s) ≡ true
-    → answer text at (behind_heading n) seen rs ≡ answer text s.to (at_heading n) seen rs
+pub bar-on : (text : List ℕ) (at n : ℕ) (s : Range ℕ) (seen : List ℕ) (rs : List Record) → Stands text at s → same bar (part_of text s) ≡ true
+    → answer text at (behind_heading n) seen rs ≡ answer text s.end (at_heading n) seen rs
 unfolding step
 bar-on text at n s seen rs sp e =
-    plain_at 2 text at s (behind_heading n) seen rs (at_heading n) sp behind-name (not-empty 124 [] _ e) (rw e) ∙ ap (carried (length text) (at_heading n) seen rs) (later 1 text s.to)
+    plain_at 2 text at s (behind_heading n) seen rs (at_heading n) sp behind-name (not-empty 124 [] _ e) (rw e) ∙ ap (carried (length text) (at_heading n) seen rs) (later 1 text s.end)
 
-pub mark-refused : (text : List ℕ) (at n : ℕ) (s : Span) (seen : List ℕ) (rs : List Record) → Stands text at s → same semicolon (part_of text s) ≡ false → same bar (part_of text s) ≡ false
-    → answer text at (behind_heading n) seen rs ≡ refused 19 s.from
+pub mark-refused : (text : List ℕ) (at n : ℕ) (s : Range ℕ) (seen : List ℕ) (rs : List Record) → Stands text at s → same semicolon (part_of text s) ≡ false → same bar (part_of text s) ≡ false
+    → answer text at (behind_heading n) seen rs ≡ refused 19 s.start
 unfolding step is_at_end
 mark-refused text at n s seen rs sp e f = refused-at 2 text at s (behind_heading n) seen rs sp behind-name refl (rw (f, e))

@@ -5,7 +5,8 @@ use mathlib.Core.List.{List, [], ◌∷◌}
 use Prim.Native.Nat.{ℕ, ◌≤◌}
 use native.Mathlib.Omega.{arith}
 use lib.ListN.{length}
-use Rattle.model.specs.declared.answer.Refusal.{Refusal}
+use Rattle.std.specs.Prelude.{Result, Ok, Err}
+use Rattle.model.specs.declared.answer.Refused.{Refused}
 use Rattle.model.specs.Reply.{number_of}
 use Rattle.model.specs.Tests.{refused}
 use Rattle.litmus_model.specs.Bytes.{Token, same, some, in_name, is_name}
@@ -14,10 +15,8 @@ use Rattle.litmus_model.specs.Splitting.{tokens}
 use Rattle.litmus_model.specs.Reader.{at_start, at_name, at_opening, beginning, braces, step, is_at_end, carried, read_text}
 use Rattle.litmus_model.proofs.Bools.{false-true}
 use Rattle.litmus_model.proofs.Following.{carried-reads}
-use Rattle.litmus_token.specs.declared.next.Span.{Span}
+use Rattle.std.specs.declared.ops.Range.{Range}
 use Rattle.litmus_token.specs.Spans.{ahead, part_of, Named, Unnamed, Spans}
-use Rattle.litmus_reader.specs.declared.passage.Passage.{Passage}
-use Rattle.litmus_reader.specs.declared.passage.Passage.TheVariants.{On, Refused}
 use Rattle.litmus_reader.specs.Passing.{answer, Ahead, Names}
 use Rattle.litmus_reader.proofs.Steps.{refused-at, plain_at, not-empty, later}
 
@@ -33,11 +32,11 @@ third-token e = omega arith
 
 -- ---- X86
 
-pub no-X86 : (text : List ℕ) (x : Span) → Spans Unnamed text 0 x → same X86 (part_of text x) ≡ false → read_text text ≡ refused 19 x.from
+pub no-X86 : (text : List ℕ) (x : Range ℕ) → Spans Unnamed text 0 x → same X86 (part_of text x) ≡ false → read_text text ≡ refused 19 x.start
 unfolding step is_at_end
 no-X86 text x sp e = start text ∙ refused-at 0 text 0 x at_start [] [] sp first-token refl (rw e)
 
-to-name : (text : List ℕ) (x : Span) → Spans Unnamed text 0 x → same X86 (part_of text x) ≡ true → read_text text ≡ carried (length text) at_name [] [] (ahead 1 text x.to)
+to-name : (text : List ℕ) (x : Range ℕ) → Spans Unnamed text 0 x → same X86 (part_of text x) ≡ true → read_text text ≡ carried (length text) at_name [] [] (ahead 1 text x.end)
 unfolding step
 to-name text x sp e = start text ∙ plain_at 0 text 0 x at_start [] [] at_name sp first-token (not-empty 88 (56 ∷ 54 ∷ []) _ e) (rw e)
 
@@ -47,27 +46,27 @@ name-there : (t : Token) → is_name t ≡ true → ¬ (t ≡ [])
 unfolding some
 name-there t e z = false-true (sym (ap (some in_name) z) ∙ e)
 
-pub no_name : (text : List ℕ) (x n : Span) → Spans Unnamed text 0 x → same X86 (part_of text x) ≡ true → Spans Named text x.to n → is_name (part_of text n) ≡ false → read_text text ≡ refused 19 n.from
+pub no_name : (text : List ℕ) (x n : Range ℕ) → Spans Unnamed text 0 x → same X86 (part_of text x) ≡ true → Spans Named text x.end n → is_name (part_of text n) ≡ false → read_text text ≡ refused 19 n.start
 unfolding step is_at_end
-no_name text x n sp e sn h = to-name text x sp e ∙ refused-at 1 text x.to n at_name [] [] sn refl refl (rw h)
+no_name text x n sp e sn h = to-name text x sp e ∙ refused-at 1 text x.end n at_name [] [] sn refl refl (rw h)
 
-pub named : (text : List ℕ) (x n : Span) → Spans Unnamed text 0 x → same X86 (part_of text x) ≡ true → Spans Named text x.to n → is_name (part_of text n) ≡ true → Names text (On n.to)
+pub named : (text : List ℕ) (x n : Range ℕ) → Spans Unnamed text 0 x → same X86 (part_of text x) ≡ true → Spans Named text x.end n → is_name (part_of text n) ≡ true → Names text (Ok n.end)
 unfolding step
-named text x n sp e sn h = to-name text x sp e ∙ plain_at 1 text x.to n at_name [] [] at_opening sn refl (name-there _ h) (rw h)
+named text x n sp e sn h = to-name text x sp e ∙ plain_at 1 text x.end n at_name [] [] at_opening sn refl (name-there _ h) (rw h)
 
 -- ---- the brace
 
-pub no-brace : (text : List ℕ) (out : Passage) (at : ℕ) (b : Span) → Names text out → out ≡ On at → Spans Unnamed text at b → same opening (part_of text b) ≡ false → read_text text ≡ refused 19 b.from
+pub no-brace : (text : List ℕ) (out : Result ℕ Refused) (at : ℕ) (b : Range ℕ) → Names text out → out ≡ Ok at → Spans Unnamed text at b → same opening (part_of text b) ≡ false → read_text text ≡ refused 19 b.start
 unfolding step is_at_end
 no-brace text out at b n e sp h = subst (Names text) e n ∙ refused-at 2 text at b at_opening [] [] sp third-token refl (rw h)
 
-pub opened : (text : List ℕ) (out : Passage) (at : ℕ) (b : Span) → Names text out → out ≡ On at → Spans Unnamed text at b → same opening (part_of text b) ≡ true → read_text text ≡ answer text b.to (beginning braces) [] []
+pub opened : (text : List ℕ) (out : Result ℕ Refused) (at : ℕ) (b : Range ℕ) → Names text out → out ≡ Ok at → Spans Unnamed text at b → same opening (part_of text b) ≡ true → read_text text ≡ answer text b.end (beginning braces) [] []
 unfolding step
 opened text out at b n e sp h =
-    subst (Names text) e n ∙ plain_at 2 text at b at_opening [] [] (beginning braces) sp third-token (not-empty 123 [] _ h) (rw h) ∙ ap (carried (length text) (beginning braces) [] []) (later 1 text b.to)
+    subst (Names text) e n ∙ plain_at 2 text at b at_opening [] [] (beginning braces) sp third-token (not-empty 123 [] _ h) (rw h) ∙ ap (carried (length text) (beginning braces) [] []) (later 1 text b.end)
 
-pub not_named : (text : List ℕ) (out : Passage) (why : Refusal) (place : ℕ) → Names text out → out ≡ Refused why place → read_text text ≡ refused (number_of why) place
-not_named text out why place n e = subst (Names text) e n
+pub not_named : (text : List ℕ) (out : Result ℕ Refused) (r : Refused) → Names text out → out ≡ Err r → read_text text ≡ refused (number_of r.why) r.place
+not_named text out r n e = subst (Names text) e n
 
-pub on-ahead : (text : List ℕ) (out : Passage) (at : ℕ) → Ahead 0 text out → out ≡ On at → at ≤ length text
+pub on-ahead : (text : List ℕ) (out : Result ℕ Refused) (at : ℕ) → Ahead 0 text out → out ≡ Ok at → at ≤ length text
 on-ahead text out at a e = (subst (Ahead 0 text) e a).1

@@ -10,6 +10,7 @@ use lib.Seq.{take_all, take-append-le, take-suc-set}
 use borrow.Author.Tests.{eq-eqb, ne_eqb}
 use Rattle.model.specs.declared.record.Record.{Record}
 use Rattle.record.specs.Words.{record_in, records_in}
+use Rattle.litmus_reader.specs.declared.records.Records.{Records}
 use Rattle.litmus_reader.specs.Keeping.{most, Keeps, given, KeepsOn}
 
 given-none : (r : Record) → r.kind ≡ 0 → given r ≡ []
@@ -18,34 +19,40 @@ given-none r e = ap (λ (b : Bool). cond b [] (r ∷ [])) (eq-eqb r.kind 0 e)
 given-one : (r : Record) → (r.kind ≡ 0 → ⊥) → given r ≡ r ∷ []
 given-one r e = ap (λ (b : Bool). cond b [] (r ∷ [])) (ne_eqb r.kind 0 e)
 
-pub keeps-none : (words : List ℕ) (n : ℕ) (r : Record) → r.kind ≡ 0 → KeepsOn words n r words n
-keeps-none words n r e = record { each = λ rs k. subst (Keeps words n) (sym (ap (λ (l : List Record). rs ++ l) (given-none r e) ∙ append-nil rs)) k }
+pub keeps-none : (k : Records) (r : Record) → r.kind ≡ 0 → KeepsOn k r k
+keeps-none k r e = record { each = λ rs h. subst (Keeps k) (sym (ap (λ (l : List Record). rs ++ l) (given-none r e) ∙ append-nil rs)) h }
 
--- one more
-on_one : (words after : List ℕ) (n : ℕ) (r : Record) → (r.kind ≡ 0 → ⊥) → ((rs : List Record) → Keeps words n rs → records_in (take (n + 1) after) ≡ take most (rs ++ (r ∷ [])))
-    → KeepsOn words n r after (n + 1)
-on_one words after n r e h =
+-- k with these words, and one more
+abbrev more : Records → List ℕ → Records
+more k words = record { words = words; count = k.count + 1 }
+
+on_one : (k : Records) (words : List ℕ) (r : Record) → (r.kind ≡ 0 → ⊥) → ((rs : List Record) → Keeps k rs → records_in (take (k.count + 1) words) ≡ take most (rs ++ (r ∷ []))) → KeepsOn k r (more k words)
+on_one k words r e h =
     record {
-      each = λ rs k.
+      each = λ rs held.
           let l = length-append rs (r ∷ []) in
-          let c = k.count-is in
-          subst (λ (g : List Record). Keeps after (n + 1) (rs ++ g)) (sym (given-one r e)) (record { first = h rs k; count-is = omega arith });
+          let c = held.count-is in
+          subst (λ (g : List Record). Keeps (more k words) (rs ++ g)) (sym (given-one r e)) (record { first = h rs held; count-is = omega arith });
     }
 
-pub keeps-full : (words : List ℕ) (n : ℕ) (r : Record) → length words ≡ most → (r.kind ≡ 0 → ⊥) → most ≤ n → KeepsOn words n r words (n + 1)
-keeps-full words n r long e m =
-    on_one words words n r e
-    (λ rs k.
-    let c = k.count-is in
-    ap records_in (take_all (n + 1) words (omega arith) ∙ sym (take_all n words (omega arith))) ∙ k.first ∙ sym (take-append-le most rs (r ∷ []) (omega arith)))
+pub keeps-full : (k : Records) (r : Record) → length k.words ≡ most → (r.kind ≡ 0 → ⊥) → most ≤ k.count → KeepsOn k r (more k k.words)
+keeps-full k r long e m =
+    let n = k.count in
+    let words = k.words in
+    on_one k words r e
+    (λ rs held.
+    let c = held.count-is in
+    ap records_in (take_all (n + 1) words (omega arith) ∙ sym (take_all n words (omega arith))) ∙ held.first ∙ sym (take-append-le most rs (r ∷ []) (omega arith)))
 
-pub keeps-room : (words : List ℕ) (n w : ℕ) (r : Record) → length words ≡ most → record_in w ≡ r → (r.kind ≡ 0 → ⊥) → n < most → KeepsOn words n r (set words n w) (n + 1)
-keeps-room words n w r long is e m =
-    on_one words (set words n w) n r e
-    (λ rs k.
-    let c = k.count-is in
+pub keeps-room : (k : Records) (w : ℕ) (r : Record) → length k.words ≡ most → record_in w ≡ r → (r.kind ≡ 0 → ⊥) → k.count < most → KeepsOn k r (more k (set k.words k.count w))
+keeps-room k w r long is e m =
+    let n = k.count in
+    let words = k.words in
+    on_one k (set words n w) r e
+    (λ rs held.
+    let c = held.count-is in
     let l = length-append rs (r ∷ []) in
     ap records_in (ap (λ (i : ℕ). take i (set words n w)) (add-one n) ∙ take-suc-set words n w (omega arith))
     ∙ map-append record_in (take n words) (w ∷ [])
-    ∙ (λ i. (k.first ∙ take_all most rs (omega arith)) i ++ (is i ∷ []))
+    ∙ (λ i. (held.first ∙ take_all most rs (omega arith)) i ++ (is i ∷ []))
     ∙ sym (take_all most (rs ++ (r ∷ [])) (omega arith)))

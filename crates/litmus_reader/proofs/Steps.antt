@@ -14,7 +14,7 @@ use Rattle.litmus_model.specs.Splitting.{behind, behind_in, tokens_from}
 use Rattle.litmus_model.specs.Reader.{Control, stuck, went, step, fault, is_at_end, carried}
 use Rattle.litmus_model.proofs.Bools.{false-true}
 use Rattle.litmus_model.proofs.Following.{follow-end, follow-stuck, follow-went}
-use Rattle.litmus_token.specs.declared.next.Span.{Span}
+use Rattle.std.specs.declared.ops.Range.{Range}
 use Rattle.litmus_token.specs.Spans.{ahead, part_of, Spans, ended, token}
 
 -- ---- behind the name all is alike
@@ -30,41 +30,41 @@ later k text at = same-later k 0 0 at (drop at text)
 
 -- ---- the next token
 
-part-of-none : (text : List ℕ) (s : Span) → s.from ≡ s.to → part_of text s ≡ []
-part-of-none text s e = let z : s.to - s.from ≡ 0 = omega arith in ap (λ (n : ℕ). take n (drop s.from text)) z
+part-of-none : (text : List ℕ) (s : Range ℕ) → s.start ≡ s.end → part_of text s ≡ []
+part-of-none text s e = let z : s.end - s.start ≡ 0 = omega arith in ap (λ (n : ℕ). take n (drop s.start text)) z
 
 -- there is none
-pub ended_at : {K : ℕ → Type 0} (k : ℕ) (text : List ℕ) (at : ℕ) (s : Span) (c : Control) (seen : List ℕ) (rs : List Record)
-    → Spans K text at s → K k → length text ≤ s.from → is_at_end c ≡ false → carried (length text) c seen rs (ahead k text at) ≡ refused 19 s.from
+pub ended_at : {K : ℕ → Type 0} (k : ℕ) (text : List ℕ) (at : ℕ) (s : Range ℕ) (c : Control) (seen : List ℕ) (rs : List Record)
+    → Spans K text at s → K k → length text ≤ s.start → is_at_end c ≡ false → carried (length text) c seen rs (ahead k text at) ≡ refused 19 s.start
 ended_at k text at s c seen rs (ended f t n) u h e =
     ap (carried (length text) c seen rs) (n k u) ∙ follow-end (length text) c seen rs ∙ ap (λ (b : Bool). cond b (passed rs) (refused 19 (length text))) e ∙ ap (refused 19) (sym f)
 ended_at k text at s c seen rs (token a m l n) u h e = absurd (omega arith)
 
 -- it cannot stand there, or there is none
-pub refused-at : {K : ℕ → Type 0} (k : ℕ) (text : List ℕ) (at : ℕ) (s : Span) (c : Control) (seen : List ℕ) (rs : List Record)
-    → Spans K text at s → K k → is_at_end c ≡ false → step c (part_of text s) ≡ stuck → carried (length text) c seen rs (ahead k text at) ≡ refused 19 s.from
+pub refused-at : {K : ℕ → Type 0} (k : ℕ) (text : List ℕ) (at : ℕ) (s : Range ℕ) (c : Control) (seen : List ℕ) (rs : List Record)
+    → Spans K text at s → K k → is_at_end c ≡ false → step c (part_of text s) ≡ stuck → carried (length text) c seen rs (ahead k text at) ≡ refused 19 s.start
 refused-at k text at s c seen rs (ended f t n) u e h = ended_at k text at s c seen rs (ended f t n) u (omega arith) e
 refused-at k text at s c seen rs (token a m l n) u e h =
-    ap (carried (length text) c seen rs) (n k u) ∙ follow-stuck (length text) c seen rs (record { at = s.from; token = part_of text s }) (ahead (suc k) text s.to) h
+    ap (carried (length text) c seen rs) (n k u) ∙ follow-stuck (length text) c seen rs (record { at = s.start; token = part_of text s }) (ahead (suc k) text s.end) h
 
 -- it can
-pub went-at : {K : ℕ → Type 0} (k : ℕ) (text : List ℕ) (at : ℕ) (s : Span) (c : Control) (seen : List ℕ) (rs : List Record) (c₁ : Control) (m : Mention) (fs : List Entry)
+pub went-at : {K : ℕ → Type 0} (k : ℕ) (text : List ℕ) (at : ℕ) (s : Range ℕ) (c : Control) (seen : List ℕ) (rs : List Record) (c₁ : Control) (m : Mention) (fs : List Entry)
     → Spans K text at s → K k → ¬ (part_of text s ≡ []) → step c (part_of text s) ≡ went c₁ m fs
-    → carried (length text) c seen rs (ahead k text at) ≡ unless (fault seen m) s.from (carried (length text) c₁ (seen_on seen m) (rs ++ map (record_of (seen_on seen m)) fs) (ahead (suc k) text s.to))
+    → carried (length text) c seen rs (ahead k text at) ≡ unless (fault seen m) s.start (carried (length text) c₁ (seen_on seen m) (rs ++ map (record_of (seen_on seen m)) fs) (ahead (suc k) text s.end))
 went-at k text at s c seen rs c₁ m fs (ended f t n) u e h = absurd (e (part-of-none text s (f ∙ sym t)))
 went-at k text at s c seen rs c₁ m fs (token a b l n) u e h =
-    ap (carried (length text) c seen rs) (n k u) ∙ follow-went (length text) c seen rs (record { at = s.from; token = part_of text s }) (ahead (suc k) text s.to) c₁ m fs h
+    ap (carried (length text) c seen rs) (n k u) ∙ follow-went (length text) c seen rs (record { at = s.start; token = part_of text s }) (ahead (suc k) text s.end) c₁ m fs h
 
 -- behind a token that is there
-pub past : {K : ℕ → Type 0} (text : List ℕ) (at : ℕ) (s : Span) → ¬ (part_of text s ≡ []) → Spans K text at s → at < s.to
+pub past : {K : ℕ → Type 0} (text : List ℕ) (at : ℕ) (s : Range ℕ) → ¬ (part_of text s ≡ []) → Spans K text at s → at < s.end
 past text at s e (ended f t n) = absurd (e (part-of-none text s (f ∙ sym t)))
 past text at s e (token a b l n) = omega arith
 
 -- and says nothing
-pub plain_at : {K : ℕ → Type 0} (k : ℕ) (text : List ℕ) (at : ℕ) (s : Span) (c : Control) (seen : List ℕ) (rs : List Record) (c₁ : Control)
-    → Spans K text at s → K k → ¬ (part_of text s ≡ []) → step c (part_of text s) ≡ went c₁ nothing [] → carried (length text) c seen rs (ahead k text at) ≡ carried (length text) c₁ seen rs (ahead (suc k) text s.to)
+pub plain_at : {K : ℕ → Type 0} (k : ℕ) (text : List ℕ) (at : ℕ) (s : Range ℕ) (c : Control) (seen : List ℕ) (rs : List Record) (c₁ : Control)
+    → Spans K text at s → K k → ¬ (part_of text s ≡ []) → step c (part_of text s) ≡ went c₁ nothing [] → carried (length text) c seen rs (ahead k text at) ≡ carried (length text) c₁ seen rs (ahead (suc k) text s.end)
 unfolding fault seen_on unless
-plain_at k text at s c seen rs c₁ sp u e h = went-at k text at s c seen rs c₁ nothing [] sp u e h ∙ ap (λ (l : List Record). carried (length text) c₁ seen l (ahead (suc k) text s.to)) (append-nil rs)
+plain_at k text at s c seen rs c₁ sp u e h = went-at k text at s c seen rs c₁ nothing [] sp u e h ∙ ap (λ (l : List Record). carried (length text) c₁ seen l (ahead (suc k) text s.end)) (append-nil rs)
 
 -- ---- tokens that are there
 

@@ -1,64 +1,52 @@
 // A form: an initial cell, or a cell of a row, up to the mark that closes it.
 ghost use Rattle.std.specs.Prelude.{◌≤◌, length};
-ghost use Rattle.model.specs.Sizes.{locations};
-ghost use Rattle.litmus_form.specs.Places.{Sound};
-ghost use Rattle.litmus_said.specs.Saying.{seen_in};
 ghost use Rattle.litmus_reader.specs.Forming.{FormRead};
 
-use litmus_form::forms::{COUNT, KINDS, LENGTHS, advance, code_at, first_alive};
+use litmus_form::forms::{LONGEST, advance, first_alive, form_at, pattern_at};
 use litmus_form::place::{Place, blank_in, flags_in, mark_in};
-use litmus_said::note::{Noted, note};
+use litmus_said::letter::Letters;
+use litmus_said::note::note;
 use litmus_token::next::next_token;
-use model::answer::Refusal;
+use model::answer::{Refusal, Refused};
 use model::record::Record;
-use model::table::Cells;
 
-// Its record, of kind 0 for an empty cell, and the byte behind it; or a refusal.
-#[derive(Drop)]
-pub enum Cell {
-    Read(Record, usize),
-    Refused(Refusal, usize),
-}
-
-pub fn read_form<'a>(
+// Its record, of kind 0 for an empty cell, and the byte behind it.
+pub fn read_form(
     text: &[u8],
     at: usize,
-    place: Place,
-    seen: &'a mut [u8; Cells::LOCATIONS],
-    letters: &'a mut usize,
-) -> Cell
-    requires { (at ≤ length text.now) × Sound place × (letters.old ≤ locations) }
-    ensures { FormRead text.now at place (seen_in seen.old letters.old) result (seen_in seen.new letters.new)
-        × (letters.new ≤ locations) }
+    place: &Place,
+    letters: &mut Letters,
+) -> Result<(Record, usize), Refused>
+    requires { at ≤ length text.now }
+    ensures { FormRead text.now at place.now letters.old result letters.new }
 {
     let mark = mark_in(place);
     let mut alive = flags_in(place);
     let mut r = blank_in(place);
     let mut at = at;
-    let mut i = 0;
-    loop {
-        let next = next_token(text, at);
-        let from = next.from;
-        let to = next.to;
+    for i in 0..LONGEST {
+        let token = next_token(text, at);
         // No form is at its end here, so none may end with the text.
-        if text.len() <= from {
-            return Cell::Refused(Refusal::TextGrammar, from);
+        if token.start == text.len() {
+            return Err(Refusal::TextGrammar.at(token.start));
         }
-        let left = advance(alive, mark, i, &text[from..to]);
-        let j = first_alive(left);
-        if COUNT <= j {
-            return Cell::Refused(Refusal::TextGrammar, from);
+        let bytes = &text[token.start..token.end];
+        let left = advance(alive, mark, i, bytes);
+        let Some(j) = first_alive(left) else {
+            return Err(Refusal::TextGrammar.at(token.start));
+        };
+        match note(r, pattern_at(mark, j, i), bytes, letters) {
+            Err(why) => return Err(why.at(token.start)),
+            Ok(noted) => r = noted,
         }
-        match note(r, code_at(mark, j, i), &text[from..to], seen, letters) {
-            Noted::Wrong(why) => return Cell::Refused(why, from),
-            Noted::Well(noted) => r = noted,
-        }
-        i += 1;
-        if i == LENGTHS[j] {
-            r.kind = KINDS[j];
-            return Cell::Read(r, to);
+        let form = form_at(j);
+        if i + 1 == form.length {
+            r.kind = form.kind;
+            return Ok((r, token.end));
         }
         alive = left;
-        at = to;
+        at = token.end;
     }
+    // No form is longer.
+    unreachable!()
 }

@@ -7,53 +7,41 @@ ghost use Rattle.litmus_reader.specs.Passing.{HeadingsRead};
 
 use litmus_form::patterns::is_mark;
 use litmus_token::next::next_token;
-use model::answer::Refusal;
+use litmus_token::words::same_bytes;
+use model::answer::{Refusal, Refused};
 use model::table::Program;
-
-// How many there are, and the byte behind them; or a refusal.
-#[derive(Drop)]
-pub enum Headed {
-    Read(usize, usize),
-    Refused(Refusal, usize),
-}
 
 fn is_heading(n: usize, t: &[u8]) -> bool
     requires { n ≤ processors }
     ensures { result ≡ same (heading n) t.now }
 {
-    if t.len() != 2 {
-        return false;
-    }
-    (b'P' == t[0]) & (b'0' + n as u8 == t[1])
+    same_bytes(&[b'P', b'0' + n as u8], t)
 }
 
-pub fn read_headings(text: &[u8], at: usize) -> Headed
+// How many there are, and the byte behind them.
+pub fn read_headings(text: &[u8], at: usize) -> Result<(usize, usize), Refused>
     requires { at ≤ length text.now }
     ensures { HeadingsRead text.now at result }
 {
-    let mut n = 0;
     let mut at = at;
-    loop {
-        let next = next_token(text, at);
-        let from = next.from;
-        let to = next.to;
-        if !is_heading(n, &text[from..to]) {
-            return Headed::Refused(Refusal::TextGrammar, from);
+    for n in 0..Program::PROCESSORS + 1 {
+        let token = next_token(text, at);
+        if !is_heading(n, &text[token.start..token.end]) {
+            return Err(Refusal::TextGrammar.at(token.start));
         }
         // The fifth.
         if n == Program::PROCESSORS {
-            return Headed::Refused(Refusal::TextLimit, from);
+            return Err(Refusal::TextLimit.at(token.start));
         }
-        n += 1;
-        let mark = next_token(text, to);
-        let begin = mark.from;
-        let end = mark.to;
-        if is_mark(b';', &text[begin..end]) {
-            return Headed::Read(n, end);
+        let mark = next_token(text, token.end);
+        if is_mark(b';', &text[mark.start..mark.end]) {
+            return Ok((n + 1, mark.end));
         }
-        if !is_mark(b'|', &text[begin..end]) {
-            return Headed::Refused(Refusal::TextGrammar, begin);
+        if !is_mark(b'|', &text[mark.start..mark.end]) {
+            return Err(Refusal::TextGrammar.at(mark.start));
         }
-        at = end;
+        at = mark.end;
     }
+    // The fifth is refused.
+    unreachable!()
 }

@@ -5,5 +5,5 @@ pub mod form;
 pub mod forms;
 pub mod head;
 pub mod headings;
-pub mod passage;
 pub mod read;
+pub mod records;

@@ -1,52 +1,24 @@
 // A whole text.
-ghost use Rattle.std.specs.Prelude.{◌≡◌, length};
 ghost use Rattle.litmus_reader.specs.Forming.{TextRead};
 
-use crate::forms::{MOST, read_forms};
+use crate::forms::read_forms;
 use crate::head::read_head;
-use crate::headings::{Headed, read_headings};
-use crate::passage::Passage;
-use litmus_form::place::Place;
-use model::answer::Answer;
-use model::table::Cells;
+use crate::headings::read_headings;
+use crate::records::Records;
+use litmus_form::place::{Column, Place};
+use litmus_said::letter::Letters;
+use model::answer::Verdict;
 
-// How many records the text gives, and the first of them in words; or its refusal.
-pub fn read_text(text: &[u8], records: &mut [u64]) -> Answer
-    requires { length records.old ≡ MOST }
+// The records that the text gives, or its refusal.
+pub fn read_text(text: &[u8], records: &mut Records) -> Verdict
     ensures { TextRead text.now result records.new }
 {
-    let mut seen = [0u8; Cells::LOCATIONS];
-    let mut letters = 0;
-    let mut count = 0;
-    let cells = match read_head(text) {
-        Passage::Refused(why, place) => return Answer::Refused(why, place),
-        Passage::On(at) => at,
-    };
-    let headings = match read_forms(
-        text,
-        cells,
-        Place::Braces,
-        &mut seen,
-        &mut letters,
-        records,
-        &mut count,
-    ) {
-        Passage::Refused(why, place) => return Answer::Refused(why, place),
-        Passage::On(at) => at,
-    };
-    match read_headings(text, headings) {
-        Headed::Refused(why, place) => Answer::Refused(why, place),
-        Headed::Read(n, rows) => match read_forms(
-            text,
-            rows,
-            Place::Row(n, 0),
-            &mut seen,
-            &mut letters,
-            records,
-            &mut count,
-        ) {
-            Passage::Refused(why, place) => Answer::Refused(why, place),
-            Passage::On(_) => Answer::Done(count),
-        },
-    }
+    let mut letters = Letters::new();
+    records.count = 0;
+    let cells = read_head(text)?;
+    let headings = read_forms(text, cells, Place::Braces, &mut letters, records)?;
+    let (n, rows) = read_headings(text, headings)?;
+    let row = Place::Row(Column::first(n));
+    read_forms(text, rows, row, &mut letters, records)?;
+    Ok(())
 }

@@ -1,12 +1,11 @@
 -- Constants: cut off, within their range, and stored.
 use mathlib.Core.Path.{◌≡◌, refl, ap, sym, ◌∙◌, subst⁻¹}
 use mathlib.Core.Bool.{Bool, true, false, cond, ◌&&◌, and-true}
-use mathlib.Core.List.{◌∷◌}
-use Prim.Native.Nat.{ℕ, zero, suc, ◌+◌, ◌-◌, ◌≤◌, ◌<◌}
+use mathlib.Core.List.{[], ◌∷◌}
+use Prim.Native.Nat.{ℕ, zero, suc, ◌-◌, ◌≤◌, ◌<◌}
 use native.Mathlib.Omega.{arith}
-use native.Mathlib.Numerals.{add-one}
-use lib.ListN.{length, drop, get_or}
-use lib.Seq.{drop-cons}
+use lib.ListN.{length, take, drop, get_or}
+use Rattle.std.proofs.lemmas.List.{take_rest}
 use lib.IntN.{ℤ, pos, negsuc, nat_abs, ◌+ℤ◌, ◌-ℤ◌, +ℤ_idl}
 use lib.Signed.{le_z, non_neg}
 use lib.Dec.{T, leb, ltb}
@@ -80,20 +79,23 @@ capped-negated zero = refl
 capped-negated (suc n) = refl
 
 -- with a minus sign, and without
-pub constant-minus : (t : Token) (from n : ℕ) → from < length t → get_or t from 0 ≡ 45 → n ≡ capped (value_of (drop (from + 1) t)) → n ≤ 4294967296
-    → to_z w64 (of_z w64 (pos 0 -ℤ to_z w64 n)) ≡ capped_z (constant_of (drop from t))
+pub constant-minus : (t : Token) (n : ℕ) → 1 ≤ length t → get_or t 0 0 ≡ 45 → n ≡ capped (value_of (take (length t - 1) (drop 1 t))) → n ≤ 4294967296
+    → to_z w64 (of_z w64 (pos 0 -ℤ to_z w64 n)) ≡ capped_z (constant_of t)
 unfolding constant_of
-constant-minus t from n h e r k =
-    to_z-of_z w64 (pos 0 -ℤ to_z w64 n) (minus-fits n k) ∙ taken-off n k ∙ ap negated (r ∙ ap (λ (i : ℕ). capped (value_of (drop i t))) (add-one from))
-    ∙ sym (ap (λ (l : Token). capped_z (constant_of l)) (drop-cons t from 0 h) ∙ ap (λ (b : Bool). capped_z (cond b (negated (value_of (drop (suc from) t))) (pos (value_of (get_or t from 0 ∷ drop (suc from) t))))) (eq-eqb (get_or t from 0) 45 e)
-    ∙ capped-negated (value_of (drop (suc from) t)))
+constant-minus [] n h e r k = absurd (omega arith)
+constant-minus (b ∷ t) n h e r k =
+    to_z-of_z w64 (pos 0 -ℤ to_z w64 n) (minus-fits n k) ∙ taken-off n k ∙ ap negated (r ∙ ap (λ (l : Token). capped (value_of l)) (take_rest (b ∷ t) 1))
+    ∙ sym (ap (λ (x : Bool). capped_z (cond x (negated (value_of t)) (pos (value_of (b ∷ t))))) (eq-eqb b 45 e) ∙ capped-negated (value_of t))
 
-pub constant-plus : (t : Token) (from n : ℕ) → from < length t → (get_or t from 0 ≡ 45 → ⊥) → n ≡ capped (value_of (drop from t)) → n ≤ 4294967296
-    → to_z w64 n ≡ capped_z (constant_of (drop from t))
+pub constant-none : (t : Token) (n : ℕ) → length t < 1 → n ≡ capped (value_of t) → n ≤ 4294967296 → to_z w64 n ≡ capped_z (constant_of t)
 unfolding constant_of
-constant-plus t from n h e r k =
-    as-signed n k ∙ ap pos (r ∙ ap (λ (l : Token). capped (value_of l)) (drop-cons t from 0 h))
-    ∙ sym (ap (λ (l : Token). capped_z (constant_of l)) (drop-cons t from 0 h) ∙ ap (λ (b : Bool). capped_z (cond b (negated (value_of (drop (suc from) t))) (pos (value_of (get_or t from 0 ∷ drop (suc from) t))))) (ne_eqb (get_or t from 0) 45 e))
+constant-none [] n h r k = as-signed n k ∙ ap pos r
+constant-none (b ∷ t) n h r k = absurd (omega arith)
+
+pub constant-plus : (t : Token) (n : ℕ) → ¬ (get_or t 0 0 ≡ 45) → n ≡ capped (value_of t) → n ≤ 4294967296 → to_z w64 n ≡ capped_z (constant_of t)
+unfolding constant_of
+constant-plus [] n e r k = as-signed n k ∙ ap pos r
+constant-plus (b ∷ t) n e r k = as-signed n k ∙ ap pos r ∙ sym (ap (λ (x : Bool). capped_z (cond x (negated (value_of t)) (pos (value_of (b ∷ t))))) (ne_eqb b 45 e))
 
 -- ---- a constant that is cut off is judged alike
 

@@ -1,37 +1,52 @@
 -- Where a letter stands among those seen, and one that joins them.
 use mathlib.Core.Path.{◌≡◌, refl, ap, sym, ◌∙◌}
-use mathlib.Core.Bool.{Bool, true, false, cond, ◌||◌}
+use mathlib.Core.Bool.{Bool, true, false, cond, ◌||◌, not}
 use mathlib.Core.Option.{none, some}
 use mathlib.Core.List.{List, [], ◌∷◌, ◌++◌}
 use Prim.Native.Nat.{ℕ, suc, ◌+◌, ◌≤◌, ◌<◌}
 use native.Mathlib.Omega.{arith}
-use native.Mathlib.Numerals.{add-one}
-use lib.ListN.{length, take, drop, get_or, set, drop_of_length-le}
-use lib.Seq.{slice-cons, length-take-le, take-suc-set}
-use lib.Dec.{eqb}
-use borrow.Author.Tests.{eq-eqb, ne_eqb, le-leb, lt-leb}
+use lib.ListN.{length, take, set}
+use lib.Seq.{length-take-le}
+use lib.Dec.{eqb, ltb}
+use borrow.Author.Tests.{eq-eqb, le-leb, lt-leb, ltb-true, ltb-false}
+use Rattle.std.specs.Prelude.{Option, Some, None, position}
+use Rattle.std.specs.List.{position_or_len}
+use Rattle.std.proofs.lemmas.List.{take_more_set}
 use Rattle.litmus_model.specs.Forms.{a_location}
 use Rattle.litmus_model.specs.Answers.{among, seen_on, number_in}
 use Rattle.litmus_model.specs.Reader.{fault}
 use Rattle.litmus_model.proofs.Bools.{false-true}
 use Rattle.litmus_said.specs.Saying.{Locates, ninth, found}
 
--- ---- the loop
+-- ---- where it stands
 
-pub place-stops : (l : List ℕ) (n x i : ℕ) → i < n → n ≤ length l → get_or l i 0 ≡ x → number_in (drop i (take n l)) x ≡ 0
+number-place : (l : List ℕ) (x : ℕ) → position_or_len (λ y. eqb y x) l ≡ number_in l x
 unfolding number_in
-place-stops l n x i h k e = ap (λ (m : List ℕ). number_in m x) (slice-cons i n l 0 h k) ∙ rw (eq-eqb (get_or l i 0) x e)
+number-place [] x = refl
+number-place (y ∷ l) x = go (eqb y x) (number-place l x)
+  where
+    go : (b : Bool) → position_or_len (λ y. eqb y x) l ≡ number_in l x → cond (not b) (1 + position_or_len (λ y. eqb y x) l) 0 ≡ cond b 0 (suc (number_in l x))
+    go true e = refl
+    go false e = omega arith
 
-pub place-goes : (l : List ℕ) (n x i : ℕ) → i < n → n ≤ length l → (get_or l i 0 ≡ x → ⊥) → number_in (drop i (take n l)) x ≡ suc (number_in (drop (suc i) (take n l)) x)
-unfolding number_in
-place-goes l n x i h k e = ap (λ (m : List ℕ). number_in m x) (slice-cons i n l 0 h k) ∙ rw (ne_eqb (get_or l i 0) x e)
+-- the place that the code finds, if it finds one
+module _ (l : List ℕ) (x : ℕ) where
+  abbrev place : ℕ
+  place = position_or_len (λ y. eqb y x) l
 
-pub place-ends : (l : List ℕ) (n x i : ℕ) → n ≤ i → n ≤ length l → number_in (drop i (take n l)) x ≡ 0
-unfolding number_in
-place-ends l n x i h k =
-    let w : length (take n l) ≡ n = length-take-le n l k in
-    let z : length (take n l) ≤ i = omega arith in
-    ap (λ (m : List ℕ). number_in m x) (drop_of_length-le (take n l) z)
+  placed : (b : Bool) → ltb place (length l) ≡ b → (i : ℕ) → cond b (Some place) None ≡ Some i → (i < length l) × (i ≡ number_in l x)
+  placed true e i h = let k : place ≡ i = cc in let m = ltb-true place (length l) e in let n = number-place l x in (omega arith, omega arith)
+  placed false e i h = let z : ◌≡◌ {A = Option ℕ} None (Some i) = h in cc
+
+  pub place-some : (i : ℕ) → position (λ y. eqb y x) l ≡ Some i → (i < length l) × (i ≡ number_in l x)
+  place-some i h = placed (ltb place (length l)) refl i h
+
+  unplaced : (b : Bool) → ltb place (length l) ≡ b → cond b (Some place) None ≡ None → length l ≤ number_in l x
+  unplaced true e h = let z : ◌≡◌ {A = Option ℕ} (Some place) None = h in cc
+  unplaced false e h = let m = ltb-false place (length l) e in let n = number-place l x in omega arith
+
+  pub place-none : position (λ y. eqb y x) l ≡ None → length l ≤ number_in l x
+  place-none h = unplaced (ltb place (length l)) refl h
 
 -- ---- a letter that is there, and one that is not
 
@@ -99,25 +114,22 @@ seen-new : (seen : List ℕ) (x : ℕ) → among x seen ≡ false → seen_on se
 unfolding seen_on
 seen-new seen x e = rw e
 
--- ---- what the code answers, where i is the letter's place among the first n of l
+-- ---- what the code answers
 
-module _ (l : List ℕ) (n x i : ℕ) (few : n ≤ 8) (eight : length l ≡ 8) (place : i ≡ number_in (take n l) x) where
-  many : length (take n l) ≡ n
-  many = length-take-le n l (omega arith)
+pub locates-old : (seen : List ℕ) (x i : ℕ) → length seen ≤ 8 → position (λ y. eqb y x) seen ≡ Some i → Locates seen x (Some i) seen
+locates-old seen x i few h =
+    let p = place-some seen x i h in
+    let k = p.0 in
+    let a = is_among seen x i p.1 p.0 in
+    found i refl (omega arith) (fault-old seen x a) (sym (seen-old seen x a)) p.1
 
-  pub locates-ninth : 8 ≤ i → i ≤ n → (after : List ℕ) → Locates (take n l) x i after
-  locates-ninth h k after = let m = many in ninth h (fault-ninth (take n l) x (not-among (take n l) x i place (omega arith)) (omega arith))
+pub locates-ninth : (seen : List ℕ) (x : ℕ) (after : List ℕ) → position (λ y. eqb y x) seen ≡ None → 8 ≤ length seen → Locates seen x None after
+locates-ninth seen x after h many = ninth refl (fault-ninth seen x (not-among seen x (number_in seen x) refl (place-none seen x h)) many)
 
-  pub locates-old : i < 8 → (i ≡ n → ⊥) → i ≤ n → Locates (take n l) x i (take n l)
-  locates-old h d k =
-      let m = many in
-      let a = is_among (take n l) x i place (omega (arith, d)) in
-      found h (fault-old (take n l) x a) (sym (seen-old (take n l) x a)) place
-
-  pub locates-new : i < 8 → i ≡ n → Locates (take n l) x i (take (i + 1) (set l i x))
-  locates-new h e =
-      let m = many in
-      let a = not-among (take n l) x i place (omega arith) in
-      let s : take (i + 1) (set l i x) ≡ take n l ++ (x ∷ []) = ap (λ (q : ℕ). take q (set l i x)) (add-one i) ∙ take-suc-set l i x (omega arith) ∙ ap (λ (q : ℕ). take q l ++ (x ∷ [])) e in
-      let j : i ≡ length (take n l) = omega arith in
-      found h (fault-new (take n l) x a (omega arith)) (s ∙ sym (seen-new (take n l) x a)) (j ∙ sym (ap (λ (q : List ℕ). number_in q x) s ∙ joins x (take n l) a))
+-- where the first n of l are seen
+pub locates-new : (l : List ℕ) (n x : ℕ) → n < 8 → length l ≡ 8 → position (λ y. eqb y x) (take n l) ≡ None → Locates (take n l) x (Some n) (take (n + 1) (set l n x))
+locates-new l n x few eight h =
+    let many : length (take n l) ≡ n = length-take-le n l (omega arith) in
+    let a = not-among (take n l) x (number_in (take n l) x) refl (place-none (take n l) x h) in
+    let s : take (n + 1) (set l n x) ≡ take n l ++ (x ∷ []) = take_more_set l n x (omega arith) in
+    found n refl few (fault-new (take n l) x a (omega arith)) (s ∙ sym (seen-new (take n l) x a)) (sym many ∙ sym (ap (λ (q : List ℕ). number_in q x) s ∙ joins x (take n l) a))

@@ -2,7 +2,7 @@
 use mathlib.Core.Path.{◌≡◌, refl, ap, sym, ◌∙◌}
 use mathlib.Core.Bool.{Bool, true, false}
 use mathlib.Core.List.{[], ◌∷◌}
-use Prim.Native.Nat.{ℕ, suc, ◌+◌, ◌*◌, ◌-◌, ◌≤◌, ◌<◌}
+use Prim.Native.Nat.{ℕ, suc, ◌+◌, ◌*◌, ◌-◌, ◌≤◌, ◌<◌, min}
 use native.Mathlib.Omega.{arith}
 use lib.ListN.{length, drop, get_or, drop_of_length-le}
 use lib.Seq.{drop-cons}
@@ -65,12 +65,23 @@ capped_small n k = go (ltb 4294967296 n) refl
     go true e = let c = capped-above n (ltb-true 4294967296 n e) in absurd (omega arith)
     go false e = capped-below n (ltb-false 4294967296 n e)
 
--- a turn of the loop
-pub value-turn : (t : Token) (i v d w : ℕ) → i < length t → d ≡ get_or t i 0 - 48 → w ≡ capped (v * 10 + d) → capped (value_from v (drop i t)) ≡ capped (value_from w (drop (suc i) t))
-value-turn t i v d w h e c = ap capped (value-step t i v h) ∙ ap (λ (x : ℕ). capped (value_from (v * 10 + x) (drop (suc i) t))) (sym e) ∙ go (ltb 4294967296 (v * 10 + d)) refl
+-- ---- the code's loop
+
+capped-min : (n : ℕ) → min 4294967296 n ≡ capped n
+capped-min n = go (ltb 4294967296 n) refl
   where
-    go : (b : Bool) → ltb 4294967296 (v * 10 + d) ≡ b → capped (value_from (v * 10 + d) (drop (suc i) t)) ≡ capped (value_from w (drop (suc i) t))
+    go : (b : Bool) → ltb 4294967296 n ≡ b → min 4294967296 n ≡ capped n
+    go true e = let h = ltb-true 4294967296 n e in let c = capped-above n h in omega arith
+    go false e = let h = ltb-false 4294967296 n e in let c = capped-below n h in omega arith
+
+-- a turn of it
+pub value-turn : (t : Token) (i v d : ℕ) → i < length t → d ≡ get_or t i 0 → capped (value_from v (drop i t)) ≡ capped (value_from (min 4294967296 (v * 10 + (d - 48))) (drop (suc i) t))
+value-turn t i v d h e =
+    ap capped (value-step t i v h) ∙ ap (λ (x : ℕ). capped (value_from (v * 10 + (x - 48)) (drop (suc i) t))) (sym e) ∙ go (ltb 4294967296 (v * 10 + (d - 48))) refl
+    ∙ ap (λ (x : ℕ). capped (value_from x (drop (suc i) t))) (sym (capped-min (v * 10 + (d - 48))))
+  where
+    go : (b : Bool) → ltb 4294967296 (v * 10 + (d - 48)) ≡ b → capped (value_from (v * 10 + (d - 48)) (drop (suc i) t)) ≡ capped (value_from (capped (v * 10 + (d - 48))) (drop (suc i) t))
     go true f =
-        let k = ltb-true 4294967296 (v * 10 + d) f in
-        capped-on (v * 10 + d) (drop (suc i) t) k ∙ ap (λ (x : ℕ). capped (value_from x (drop (suc i) t))) (sym (c ∙ capped-above (v * 10 + d) k))
-    go false f = let k = ltb-false 4294967296 (v * 10 + d) f in ap (λ (x : ℕ). capped (value_from x (drop (suc i) t))) (sym (c ∙ capped-below (v * 10 + d) k))
+        let k = ltb-true 4294967296 (v * 10 + (d - 48)) f in
+        capped-on (v * 10 + (d - 48)) (drop (suc i) t) k ∙ ap (λ (x : ℕ). capped (value_from x (drop (suc i) t))) (sym (capped-above (v * 10 + (d - 48)) k))
+    go false f = let k = ltb-false 4294967296 (v * 10 + (d - 48)) f in ap (λ (x : ℕ). capped (value_from x (drop (suc i) t))) (sym (capped-below (v * 10 + (d - 48)) k))

@@ -1,5 +1,5 @@
 // A constant: parsed as an i64, and turned into its stored u32.
-ghost use Rattle.std.specs.Prelude.{◌≡◌, ◌<◌, length, drop};
+ghost use Rattle.std.specs.Prelude.{◌≡◌};
 ghost use Rattle.litmus_model.specs.Answers.{InRange};
 ghost use Rattle.litmus_model.specs.Forms.{constant_of, stored};
 ghost use Rattle.litmus_model.specs.Reader.{in_range};
@@ -7,15 +7,14 @@ ghost use Rattle.litmus_said.specs.Values.{capped_z};
 
 use crate::value::value_of;
 
-// From `from` on: perhaps a minus sign, then digits.
-pub fn constant_of(t: &[u8], from: usize) -> i64
-    requires { from < length t.now }
-    ensures { result ≡ capped_z (constant_of (drop from t.now)) }
+// Perhaps a minus sign, then digits.
+pub fn constant_of(t: &[u8]) -> i64
+    ensures { result ≡ capped_z (constant_of t.now) }
 {
-    if t[from] == b'-' {
-        return 0 - value_of(t, from + 1) as i64;
+    match t {
+        [b'-', digits @ ..] => 0 - value_of(digits) as i64,
+        _ => value_of(t) as i64,
     }
-    value_of(t, from) as i64
 }
 
 const LEAST: i64 = -2147483648;

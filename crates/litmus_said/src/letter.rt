@@ -1,40 +1,58 @@
-// The letters of locations, in order of first appearance: the first `letters` of `seen`.
-ghost use Rattle.std.specs.Prelude.{◌≡◌, ◌≤◌, length, take};
-ghost use Rattle.model.specs.Sizes.{locations};
-ghost use Rattle.litmus_model.specs.Answers.{number_in};
-ghost use Rattle.litmus_said.specs.Saying.{seen_in, Locates};
+// The letters of locations, in order of first appearance.
+ghost use Rattle.std.specs.Prelude.{◌≡◌, [], ◌==◌, position};
+ghost use Rattle.litmus_said.specs.Saying.{Locates};
 
 use model::table::Cells;
+use std::marker::Model;
 
-// Where x stands among the first n; n: it does not. That there are eight is told to the caller, who holds them behind a reference.
-fn place_of(seen: [u8; Cells::LOCATIONS], n: usize, x: u8) -> usize
-    requires { n ≤ locations }
-    ensures { (result ≡ number_in (take n seen) x) × (result ≤ n) × (length seen ≡ locations) }
-{
-    let mut i = 0;
-    while i < n {
-        if seen[i] == x {
-            return i;
-        }
-        i += 1;
-    }
-    n
+// The first `count` of `seen`, as many as there are locations at most. Stays its own: an ArrayVec would say nothing of letters.
+#[derive(Drop)]
+pub struct Letters {
+    seen: [u8; Cells::LOCATIONS],
+    count: usize,
 }
 
-// The number of location x, which is seen already or joins; as many as there may be: it would be the ninth.
-pub fn locate<'a>(seen: &'a mut [u8; Cells::LOCATIONS], letters: &'a mut usize, x: u8) -> usize
-    requires { letters.old ≤ locations }
-    ensures locates { Locates (seen_in seen.old letters.old) x result (seen_in seen.new letters.new) }
-    ensures letters_le_locations { letters.new ≤ locations }
-{
-    let n = *letters;
-    let i = place_of(*seen, n, x);
-    if Cells::LOCATIONS <= i {
-        return i;
+impl Model for Letters {
+    ghost use Rattle.std.specs.Prelude.{ℕ, List, ◌≤◌, take};
+    ghost use Rattle.model.specs.Sizes.{locations};
+
+    ghost Value = { List ℕ };
+
+    ghost view = { λ l. take l.count l.seen };
+
+    ghost invariant = { λ l. l.count ≤ locations };
+}
+
+impl Letters {
+    pub fn new() -> Letters
+        ensures { result ≡ [] }
+    {
+        Letters {
+            seen: [0; Cells::LOCATIONS],
+            count: 0,
+        }
     }
-    if i == n {
-        seen[i] = x;
-        *letters = i + 1;
+
+    // Where x stands among them, if it does.
+    fn place_of(&self, x: u8) -> Option<usize>
+        ensures { result ≡ position (λ y. y == x) self.now }
+    {
+        self.seen[..self.count].iter().position(|y| *y == x)
     }
-    i
+
+    // The number of location x, which is seen already or joins; none: it would be the ninth.
+    pub fn locate(&mut self, x: u8) -> Option<usize>
+        ensures { Locates self.old x result self.new }
+    {
+        if let Some(i) = self.place_of(x) {
+            return Some(i);
+        }
+        let i = self.count;
+        if i == Cells::LOCATIONS {
+            return None;
+        }
+        self.seen[i] = x;
+        self.count = i + 1;
+        Some(i)
+    }
 }

@@ -1,13 +1,13 @@
-// What a token says at its pattern, and whether that is wrong whatever stands before it: a processor above 3, a constant out of range.
-ghost use Rattle.std.specs.Prelude.{true, ◌≡◌, ◌<◌, length, drop};
-ghost use Rattle.litmus_form.specs.Flags.{pattern_at};
+// What a token says at its pattern, or what is wrong with that whatever stands before it: a processor above 3, a constant out of range.
+ghost use Rattle.std.specs.Prelude.{true, ◌≡◌};
+ghost use Rattle.litmus_form.specs.Patterns.{pattern_of};
 ghost use Rattle.litmus_model.specs.Bytes.{value_of};
 ghost use Rattle.litmus_model.specs.Forms.{fits, a_processor, a_constant, mention, constant_of};
 ghost use Rattle.litmus_said.specs.Saying.{Says};
 
 use crate::constant::{constant_of, in_range, store};
 use crate::value::value_of;
-use litmus_form::patterns::{CONSTANT, DOLLAR, LOCATION, PROCESSOR, REGISTER};
+use litmus_form::patterns::Pattern;
 use model::answer::Refusal;
 use model::table::Program;
 
@@ -18,42 +18,41 @@ pub enum Said {
     Register(u8),
     Letter(u8),
     Value(u32),
-    Wrong(Refusal),
 }
 
 const PROCESSORS: u64 = Program::PROCESSORS as u64;
 
-fn processor(t: &[u8]) -> Said
+fn processor(t: &[u8]) -> Result<Said, Refusal>
     ensures { Says (a_processor (value_of t.now)) result }
 {
-    let v = value_of(t, 0);
+    let v = value_of(t);
     if PROCESSORS <= v {
-        return Said::Wrong(Refusal::TextLimit);
+        return Err(Refusal::TextLimit);
     }
-    Said::Processor(v as u8)
+    Ok(Said::Processor(v as u8))
 }
 
-fn constant(t: &[u8], from: usize) -> Said
-    requires { from < length t.now }
-    ensures { Says (a_constant (constant_of (drop from t.now))) result }
+fn constant(t: &[u8]) -> Result<Said, Refusal>
+    ensures { Says (a_constant (constant_of t.now)) result }
 {
-    let v = constant_of(t, from);
+    let v = constant_of(t);
     if !in_range(v) {
-        return Said::Wrong(Refusal::TextConstant);
+        return Err(Refusal::TextConstant);
     }
-    Said::Value(store(v))
+    Ok(Said::Value(store(v)))
 }
 
-pub fn says(code: u8, t: &[u8]) -> Said
-    requires { fits (pattern_at code) t.now ≡ true }
-    ensures { Says (mention (pattern_at code) t.now) result }
+#[tactic(auto, unfolding(litmus_form::specs::Patterns::pattern_of, litmus_model::specs::Forms::mention))]
+pub fn says(pattern: Pattern, t: &[u8]) -> Result<Said, Refusal>
+    requires { fits (pattern_of pattern) t.now ≡ true }
+    ensures { Says (mention (pattern_of pattern) t.now) result }
 {
-    match code {
-        LOCATION => Said::Letter(t[0]),
-        REGISTER => Said::Register(t[1] - b'A'),
-        PROCESSOR => processor(t),
-        CONSTANT => constant(t, 0),
-        DOLLAR => constant(t, 1),
-        _ => Said::Nothing,
+    match pattern {
+        Pattern::Location => Ok(Said::Letter(t[0])),
+        Pattern::Register => Ok(Said::Register(t[1] - b'A')),
+        Pattern::Processor => processor(t),
+        Pattern::Constant => constant(t),
+        Pattern::Dollar => constant(&t[1..]),
+        _ => Ok(Said::Nothing),
     }
 }

@@ -1,30 +1,55 @@
--- Runs, byte by byte, as code goes along them.
-use mathlib.Core.Path.{◌≡◌, refl, ap, ◌∙◌}
-use mathlib.Core.Bool.{Bool, true, false}
+-- Runs and tokens, as code tests them.
+use mathlib.Core.Path.{◌≡◌, refl, ap, sym, ◌∙◌}
+use mathlib.Core.Bool.{Bool, true, false, cond, ◌&&◌, not}
 use mathlib.Core.List.{List, [], ◌∷◌}
-use Prim.Native.Nat.{ℕ, suc, ◌≤◌, ◌<◌}
+use Prim.Native.Nat.{ℕ, suc, ◌+◌, ◌≤◌}
 use native.Mathlib.Omega.{arith}
-use lib.ListN.{length, drop, get_or, drop_of_length-le}
-use lib.Seq.{drop-cons}
+use lib.ListN.{length, get_or}
 use mathlib.Core.Bool.{and-false}
 use lib.Dec.{eqb}
-use borrow.Author.Tests.{eq-eqb, ne_eqb}
-use Rattle.litmus_model.specs.Bytes.{Token, same, is_location, is_small}
+use borrow.Author.Tests.{ne_eqb}
+use Rattle.std.specs.List.{list_all, prefix_len}
+use Rattle.std.specs.Str.{bytes_eq}
+use Rattle.litmus_model.proofs.Bools.{false-true}
+use Rattle.litmus_model.specs.Bytes.{Token, all, some, same, is_location, is_small}
 use Rattle.litmus_model.specs.Splitting.{run}
 
-pub run-goes : (f : ℕ → Bool) (l : List ℕ) (i : ℕ) → i < length l → f (get_or l i 0) ≡ true → run f (drop i l) ≡ suc (run f (drop (suc i) l))
-unfolding run
-run-goes f l i h e = ap (run f) (drop-cons l i 0 h) ∙ rw (e, run)
+-- ---- runs
 
-pub run-stops : (f : ℕ → Bool) (l : List ℕ) (i : ℕ) → i < length l → f (get_or l i 0) ≡ false → run f (drop i l) ≡ 0
+pub run-prefix : (f : ℕ → Bool) (l : List ℕ) → (prefix_len f l ≡ run f l) × (run f l ≤ length l)
 unfolding run
-run-stops f l i h e = ap (run f) (drop-cons l i 0 h) ∙ rw (e, run)
+run-prefix f [] = (refl, omega arith)
+run-prefix f (b ∷ l) = go (f b) (run-prefix f l)
+  where
+    go : (x : Bool) → (prefix_len f l ≡ run f l) × (run f l ≤ length l) → (cond x (1 + prefix_len f l) 0 ≡ cond x (suc (run f l)) 0) × (cond x (suc (run f l)) 0 ≤ suc (length l))
+    go true r = let e = r.0 in let h = r.1 in (omega arith, omega arith)
+    go false r = (refl, omega arith)
 
-pub run_ends : (f : ℕ → Bool) (l : List ℕ) (i : ℕ) → length l ≤ i → run f (drop i l) ≡ 0
-unfolding run
-run_ends f l i h = ap (run f) (drop_of_length-le l h)
+-- ---- bytes that are all of a class
+
+all-list : (f : ℕ → Bool) (l : List ℕ) → list_all f l ≡ all f l
+unfolding all
+all-list f [] = refl
+all-list f (b ∷ l) = ap (λ (x : Bool). f b && x) (all-list f l)
+
+pub some_all : (f : ℕ → Bool) (l : List ℕ) (none : Bool) → none ≡ eqb (length l) 0 → none ≡ false → list_all f l ≡ some f l
+unfolding some
+some_all f [] none e n = false-true (sym n ∙ e)
+some_all f (b ∷ l) none e n = ap (λ (x : Bool). f b && x) (all-list f l)
+
+pub some_none : (f : ℕ → Bool) (l : List ℕ) (none : Bool) → none ≡ eqb (length l) 0 → none ≡ true → not none ≡ some f l
+unfolding some
+some_none f [] none e n = ap not n
+some_none f (b ∷ l) none e n = false-true (sym (ne_eqb (suc (length l)) 0 (λ k. omega (arith, k))) ∙ sym e ∙ n)
 
 -- ---- two tokens, byte by byte
+
+pub same_bytes_eq : (a b : Token) → bytes_eq a b ≡ same a b
+unfolding same
+same_bytes_eq [] [] = refl
+same_bytes_eq [] (y ∷ b) = refl
+same_bytes_eq (x ∷ a) [] = refl
+same_bytes_eq (x ∷ a) (y ∷ b) = ap (λ (t : Bool). eqb x y && t) (same_bytes_eq a b)
 
 pub same-lengths : (a b : Token) → (length a ≡ length b → ⊥) → same a b ≡ false
 unfolding same
@@ -33,21 +58,9 @@ same-lengths [] (y ∷ b) n = refl
 same-lengths (x ∷ a) [] n = refl
 same-lengths (x ∷ a) (y ∷ b) n = rw (same-lengths a b (λ e. n (ap suc e))) (and-false (eqb x y))
 
-pub same-goes : (a b : Token) (i : ℕ) → i < length a → i < length b → get_or a i 0 ≡ get_or b i 0 → same (drop i a) (drop i b) ≡ same (drop (suc i) a) (drop (suc i) b)
-unfolding same
-same-goes a b i h k e = (λ j. same (drop-cons a i 0 h j) (drop-cons b i 0 k j)) ∙ rw (eq-eqb (get_or a i 0) (get_or b i 0) e)
-
-pub same_differs : (a b : Token) (i : ℕ) → i < length a → i < length b → (get_or a i 0 ≡ get_or b i 0 → ⊥) → same (drop i a) (drop i b) ≡ false
-unfolding same
-same_differs a b i h k e = (λ j. same (drop-cons a i 0 h j) (drop-cons b i 0 k j)) ∙ rw (ne_eqb (get_or a i 0) (get_or b i 0) e)
-
-pub same_ends : (a b : Token) (i : ℕ) → length a ≤ i → length b ≤ i → same (drop i a) (drop i b) ≡ true
-unfolding same
-same_ends a b i h k = λ j. same (drop_of_length-le a h j) (drop_of_length-le b k j)
-
 -- ---- a single small letter
 
-pub no-letter : (t : Token) → (length t ≡ 1 → ⊥) → false ≡ is_location t
+pub no-letter : (t : Token) → ¬ (length t ≡ 1) → false ≡ is_location t
 unfolding is_location
 no-letter [] n = refl
 no-letter (b ∷ []) n = absurd (n refl)

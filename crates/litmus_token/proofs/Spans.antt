@@ -9,10 +9,8 @@ use lib.Seq.{drop-cons, drop-drop, get_or-drop}
 use Rattle.litmus_model.specs.Bytes.{is_blank, in_name}
 use Rattle.litmus_model.specs.Splitting.{run, behind, behind_in, tokens_from}
 use Rattle.litmus_model.proofs.Splitting.{placed, on-blank, on-token, skipped}
-use Rattle.litmus_token.specs.declared.next.Span.{Span}
-use Rattle.litmus_token.specs.Classes.{class_of}
+use Rattle.std.specs.declared.ops.Range.{Range}
 use Rattle.litmus_token.specs.Spans.{ahead, Named, Unnamed, Spans, ended, token}
-use Rattle.litmus_token.proofs.Classes.{run-blank, run-name}
 
 -- ---- blanks
 
@@ -35,21 +33,16 @@ run-stopped f (b ∷ bs) h = go (f b) refl h (λ k. run-stopped f bs k)
     go true e k r = r (omega arith)
     go false e k r = e
 
-at-run : (text : List ℕ) (at from : ℕ) → from ≡ at + run (class_of 2) (drop at text) → from ≡ at + run is_blank (drop at text)
-at-run text at from e = e ∙ ap (λ (n : ℕ). at + n) (run-blank (drop at text))
-
-from-blanks : (k : ℕ) (text : List ℕ) (at from : ℕ) → from ≡ at + run (class_of 2) (drop at text) → ahead k text at ≡ ahead k text from
+from-blanks : (k : ℕ) (text : List ℕ) (at from : ℕ) → from ≡ at + run is_blank (drop at text) → ahead k text at ≡ ahead k text from
 from-blanks k text at from e =
     let n = run is_blank (drop at text) in
-    let f = sym (at-run text at from e) in
-    skip-blanks k at (drop at text) ∙ ap (tokens_from k 0 (at + n)) (drop-drop n at text) ∙ ap (λ (j : ℕ). ahead k text j) f
+    skip-blanks k at (drop at text) ∙ ap (tokens_from k 0 (at + n)) (drop-drop n at text) ∙ ap (λ (j : ℕ). ahead k text j) (sym e)
 
-not-blank : (text : List ℕ) (at from : ℕ) → from ≡ at + run (class_of 2) (drop at text) → from < length text → is_blank (get_or text from 0) ≡ false
+not-blank : (text : List ℕ) (at from : ℕ) → from ≡ at + run is_blank (drop at text) → from < length text → is_blank (get_or text from 0) ≡ false
 not-blank text at from e h =
     let n = run is_blank (drop at text) in
-    let f = at-run text at from e in
     let l = length-drop at text in
-    sym (ap is_blank (get_or-drop at text n 0 ∙ ap (λ (j : ℕ). get_or text j 0) (sym f))) ∙ run-stopped is_blank (drop at text) (omega arith)
+    sym (ap is_blank (get_or-drop at text n 0 ∙ ap (λ (j : ℕ). get_or text j 0) (sym e))) ∙ run-stopped is_blank (drop at text) (omega arith)
 
 -- ---- a token
 
@@ -73,21 +66,21 @@ unnamed (suc (suc k)) b bs u = refl
 
 -- ---- what the code finds
 
-none_left : (text : List ℕ) (at from : ℕ) → from ≡ at + run (class_of 2) (drop at text) → length text ≤ from → (k : ℕ) → ahead k text at ≡ []
+none_left : (text : List ℕ) (at from : ℕ) → from ≡ at + run is_blank (drop at text) → length text ≤ from → (k : ℕ) → ahead k text at ≡ []
 unfolding tokens_from
 none_left text at from e h k = from-blanks k text at from e ∙ ap (tokens_from k 0 from) (drop_of_length-le text h)
 
-pub spans-none : (K : ℕ → Type 0) (text : List ℕ) (at from : ℕ) (s : Span) → from ≡ at + run (class_of 2) (drop at text) → from ≤ length text → length text ≤ from → s.from ≡ from → s.to ≡ from → Spans K text at s
+pub spans-none : (K : ℕ → Type 0) (text : List ℕ) (at from : ℕ) (s : Range ℕ) → from ≡ at + run is_blank (drop at text) → from ≤ length text → length text ≤ from → s.start ≡ from → s.end ≡ from → Spans K text at s
 spans-none K text at from s e l h f t = ended (omega arith) (omega arith) (λ k _. none_left text at from e h k)
 
-spans-to : (K : ℕ → Type 0) (text : List ℕ) (at : ℕ) (s : Span) → s.from ≡ at + run (class_of 2) (drop at text) → at ≤ s.from → s.from < length text → s.to ≤ length text
-    → ((k : ℕ) → K k → s.to ≡ suc s.from + behind_in k (get_or text s.from 0) (drop (suc s.from) text)) → s.from < s.to → Spans K text at s
-spans-to K text at s e a h l t m = token a m l (λ k u. from-blanks k text at s.from e ∙ token-ahead k text s.from s.to h (not-blank text at s.from e h) (t k u))
+spans-to : (K : ℕ → Type 0) (text : List ℕ) (at : ℕ) (s : Range ℕ) → s.start ≡ at + run is_blank (drop at text) → at ≤ s.start → s.start < length text → s.end ≤ length text
+    → ((k : ℕ) → K k → s.end ≡ suc s.start + behind_in k (get_or text s.start 0) (drop (suc s.start) text)) → s.start < s.end → Spans K text at s
+spans-to K text at s e a h l t m = token a m l (λ k u. from-blanks k text at s.start e ∙ token-ahead k text s.start s.end h (not-blank text at s.start e h) (t k u))
 
-pub spans-token : (text : List ℕ) (at : ℕ) (s : Span) → s.from ≡ at + run (class_of 2) (drop at text) → at ≤ s.from → s.from < length text
-    → s.to ≡ suc s.from + behind (get_or text s.from 0) (drop (suc s.from) text) → s.to ≤ length text → s.from < s.to → Spans Unnamed text at s
+pub spans-token : (text : List ℕ) (at : ℕ) (s : Range ℕ) → s.start ≡ at + run is_blank (drop at text) → at ≤ s.start → s.start < length text
+    → s.end ≡ suc s.start + behind (get_or text s.start 0) (drop (suc s.start) text) → s.end ≤ length text → s.start < s.end → Spans Unnamed text at s
 spans-token text at s e a h t l m =
-    spans-to Unnamed text at s e a h l (λ k u. t ∙ ap (λ (n : ℕ). suc s.from + n) (unnamed k (get_or text s.from 0) (drop (suc s.from) text) u)) m
+    spans-to Unnamed text at s e a h l (λ k u. t ∙ ap (λ (n : ℕ). suc s.start + n) (unnamed k (get_or text s.start 0) (drop (suc s.start) text) u)) m
 
 -- ---- the name
 
@@ -107,29 +100,29 @@ no-name-run b bs h = go (in_name b) h
     go true k = absurd (omega arith)
     go false k = refl
 
-named-run : (text : List ℕ) (from end : ℕ) → from < length text → end ≡ from + run (class_of 1) (drop from text) → end ≡ from + run in_name (get_or text from 0 ∷ drop (suc from) text)
-named-run text from end h e = e ∙ ap (λ (n : ℕ). from + n) (run-name (drop from text) ∙ ap (run in_name) (drop-cons text from 0 h))
+named-run : (text : List ℕ) (from end : ℕ) → from < length text → end ≡ from + run in_name (drop from text) → end ≡ from + run in_name (get_or text from 0 ∷ drop (suc from) text)
+named-run text from end h e = e ∙ ap (λ (l : List ℕ). from + run in_name l) (drop-cons text from 0 h)
 
-pub spans-name : (text : List ℕ) (at end : ℕ) (s : Span) → s.from ≡ at + run (class_of 2) (drop at text) → at ≤ s.from → s.from < length text
-    → end ≡ s.from + run (class_of 1) (drop s.from text) → end ≤ length text → s.from < end → s.to ≡ end → Spans Named text at s
+pub spans-name : (text : List ℕ) (at end : ℕ) (s : Range ℕ) → s.start ≡ at + run is_blank (drop at text) → at ≤ s.start → s.start < length text
+    → end ≡ s.start + run in_name (drop s.start text) → end ≤ length text → s.start < end → s.end ≡ end → Spans Named text at s
 spans-name text at end s e a h n l m t =
-    let b = get_or text s.from 0 in
-    let bs = drop (suc s.from) text in
-    let r = named-run text s.from end h n in
+    let b = get_or text s.start 0 in
+    let bs = drop (suc s.start) text in
+    let r = named-run text s.start end h n in
     let q = name-run b bs (omega arith) in
-    spans-to Named text at s e a h (omega arith) (λ k u. subst (λ (j : ℕ). s.to ≡ suc s.from + behind_in j b bs) (sym u) (omega arith)) (omega arith)
+    spans-to Named text at s e a h (omega arith) (λ k u. subst (λ (j : ℕ). s.end ≡ suc s.start + behind_in j b bs) (sym u) (omega arith)) (omega arith)
 
-pub spans-brace : (text : List ℕ) (at end : ℕ) (s : Span) → s.from ≡ at + run (class_of 2) (drop at text) → at ≤ s.from → s.from < length text
-    → end ≡ s.from + run (class_of 1) (drop s.from text) → end ≤ s.from → s.to ≡ s.from + 1 → Spans Named text at s
+pub spans-brace : (text : List ℕ) (at end : ℕ) (s : Range ℕ) → s.start ≡ at + run is_blank (drop at text) → at ≤ s.start → s.start < length text
+    → end ≡ s.start + run in_name (drop s.start text) → end ≤ s.start → s.end ≡ s.start + 1 → Spans Named text at s
 spans-brace text at end s e a h n m t =
-    let b = get_or text s.from 0 in
-    let bs = drop (suc s.from) text in
-    let r = named-run text s.from end h n in
+    let b = get_or text s.start 0 in
+    let bs = drop (suc s.start) text in
+    let r = named-run text s.start end h n in
     let q = no-name-run b bs (omega arith) in
-    spans-to Named text at s e a h (omega arith) (λ k u. subst (λ (j : ℕ). s.to ≡ suc s.from + behind_in j b bs) (sym u) (omega arith)) (omega arith)
+    spans-to Named text at s e a h (omega arith) (λ k u. subst (λ (j : ℕ). s.end ≡ suc s.start + behind_in j b bs) (sym u) (omega arith)) (omega arith)
 
 -- ---- where it lies
 
-pub bounded : {K : ℕ → Type 0} (text : List ℕ) (at : ℕ) (s : Span) → at ≤ length text → Spans K text at s → Spans K text at s × (at ≤ s.from) × (s.from ≤ s.to) × (s.to ≤ length text)
+pub bounded : {K : ℕ → Type 0} (text : List ℕ) (at : ℕ) (s : Range ℕ) → at ≤ length text → Spans K text at s → Spans K text at s × (at ≤ s.start) × (s.start ≤ s.end) × (s.end ≤ length text)
 bounded text at s h (ended f t n) = (ended f t n, omega arith, omega arith, omega arith)
 bounded text at s h (token a b l n) = (token a b l n, a, omega arith, l)

@@ -1,8 +1,12 @@
--- Classes of bytes, by the code's numbers.
-use Rattle.std.specs.Prelude.{Bool, cond, ℕ, eqb}
+-- Classes of bytes.
+use Rattle.std.specs.Prelude.{Bool, ℕ}
 use Rattle.litmus_model.specs.Bytes.{is_blank, is_digit, in_word, in_name}
+use Rattle.litmus_token.specs.declared.tokens.Class.{Class}
+use Rattle.litmus_token.specs.declared.tokens.Class.TheVariants.{Word, Name, Blank, Digit}
 
--- 0 letters and digits, 1 what a name is made of, 2 blanks, else digits
-unfoldable pub class_of : ℕ → ℕ → Bool
-unfolding in_word in_name
-class_of class b = cond (eqb class 0) (in_word b) (cond (eqb class 1) (in_name b) (cond (eqb class 2) (is_blank b) (is_digit b)))
+-- letters and digits, what a name is made of, blanks, digits
+abbrev pub class_of : Class → ℕ → Bool
+class_of Word b = in_word b
+class_of Name b = in_name b
+class_of Blank b = is_blank b
+class_of Digit b = is_digit b

@@ -2,54 +2,34 @@
 ghost use Rattle.std.specs.Prelude.{◌≤◌, length};
 ghost use Rattle.litmus_token.specs.Spans.{Spans, Named, Unnamed};
 
-use crate::tokens::{BLANK, NAME, run_end, token_end};
+use crate::tokens::{Class, run_end, token_end};
+use std::ops::Range;
 
-// The bytes from `from` up to `to`; at the text's end both are its length.
-#[derive(Drop)]
-pub struct Span {
-    pub from: usize,
-    pub to: usize,
+// Text and place stay two arguments, here and in litmus_reader: docs/PROMISES.md promises these functions of any place of any text.
+// The bytes of the token, from `at` on; at the text's end an empty range there.
+pub fn next_token(text: &[u8], at: usize) -> Range<usize>
+    requires { at ≤ length text.now }
+    ensures { Spans Unnamed text.now at result × (at ≤ result.start) × (result.start ≤ result.end) × (result.end ≤ length text.now) }
+{
+    let start = run_end(Class::Blank, text, at);
+    if start == text.len() {
+        return start..start;
+    }
+    start..token_end(text, start)
 }
 
-// From `at` on.
-pub fn next_token(text: &[u8], at: usize) -> Span
+// The same for the name; where there is none, it is the brace. Stays beside next_token: what they share is in run_end, and what ends them differs.
+pub fn next_name(text: &[u8], at: usize) -> Range<usize>
     requires { at ≤ length text.now }
-    ensures { Spans Unnamed text.now at result × (at ≤ result.from) × (result.from ≤ result.to) × (result.to ≤ length text.now) }
+    ensures { Spans Named text.now at result × (at ≤ result.start) × (result.start ≤ result.end) × (result.end ≤ length text.now) }
 {
-    let from = run_end(BLANK, text, at);
-    if text.len() <= from {
-        return Span {
-            from: from,
-            to: from,
-        };
+    let start = run_end(Class::Blank, text, at);
+    if start == text.len() {
+        return start..start;
     }
-    Span {
-        from: from,
-        to: token_end(text, from),
+    let end = run_end(Class::Name, text, start);
+    if start < end {
+        return start..end;
     }
-}
-
-// The same for the name; where there is none, it is the brace.
-pub fn next_name(text: &[u8], at: usize) -> Span
-    requires { at ≤ length text.now }
-    ensures { Spans Named text.now at result × (at ≤ result.from) × (result.from ≤ result.to) × (result.to ≤ length text.now) }
-{
-    let from = run_end(BLANK, text, at);
-    if text.len() <= from {
-        return Span {
-            from: from,
-            to: from,
-        };
-    }
-    let end = run_end(NAME, text, from);
-    if from < end {
-        return Span {
-            from: from,
-            to: end,
-        };
-    }
-    Span {
-        from: from,
-        to: from + 1,
-    }
+    start..start + 1
 }

@@ -6,19 +6,10 @@ ghost use Rattle.litmus_model.specs.Bytes.{same, is_register, is_location};
 pub fn same_bytes(word: &[u8], t: &[u8]) -> bool
     ensures { result ≡ same word.now t.now }
 {
-    if word.len() != t.len() {
-        return false;
-    }
-    let mut i = 0;
-    while i < t.len() {
-        if word[i] != t[i] {
-            return false;
-        }
-        i += 1;
-    }
-    true
+    word == t
 }
 
+#[tactic(auto, unfolding(litmus_model::specs::Bytes::is_register))]
 pub fn is_register(t: &[u8]) -> bool
     ensures { result ≡ is_register t.now }
 {
@@ -28,9 +19,8 @@ pub fn is_register(t: &[u8]) -> bool
 pub fn is_location(t: &[u8]) -> bool
     ensures { result ≡ is_location t.now }
 {
-    if t.len() != 1 {
-        return false;
+    match t {
+        [b] => b.is_ascii_lowercase(),
+        _ => false,
     }
-    let b = t[0];
-    (b'a' <= b) & (b <= b'z')
 }

@@ -4,6 +4,7 @@ use mathlib.Core.Bool.{Bool, true, false, cond}
 use mathlib.Core.List.{List, [], ◌∷◌, ◌++◌}
 use Prim.Native.Nat.{ℕ, ◌+◌, ◌-◌, ◌<◌}
 use lib.ListN.{length, get_or, drop, set}
+use Rattle.std.specs.Prelude.{Option}
 use lib.Seq.{slice, get_or-set_same, get_or-set_other}
 use Rattle.model.specs.declared.origin.Origin.{Origin}
 use Rattle.model.specs.declared.record.Record.{Record}
@@ -15,8 +16,9 @@ use Rattle.model.specs.Code.{Columns, place_at, row, steps_from, count_in}
 use Rattle.model.proofs.Rows.{row-set, row-set-other, four-get, four-set}
 use Rattle.machine_rules.specs.Offers.{writes_in}
 use Rattle.machine.specs.View.{waiting_in, todo_in, processor_of, holder_of, machine_of}
-use Rattle.machine.specs.Stores.{is_last, next_at, assigned_in, advanced_in, after_drain, held_in, counted_in}
-use Rattle.machine.specs.Ready.{Own, Long}
+use Rattle.machine_store.specs.Stores.{is_last, next_at, assigned_in, advanced_in, after_drain, held_in, counted_in}
+use Rattle.machine.specs.Ready.{Long}
+use Rattle.machine_store.specs.Stores.{Own}
 use Rattle.machine.proofs.Logs.{pushed_in, Bounds, pushed-own, pushed-other, newer_in}
 use Rattle.machine_state.specs.State.{State, parts}
 
@@ -27,7 +29,7 @@ pub record Changes (g : Columns) (m n : State) (p : ℕ) (F : Processor → Proc
 
 module _ (g : Columns) where
   -- who holds the lock changes no processor
-  pub same-processors : (m : State) (p holder : ℕ) → Changes g m (held_in m holder) p (λ P. P)
+  pub same-processors : (m : State) (p : ℕ) (holder : Option ℕ) → Changes g m (held_in m holder) p (λ P. P)
   unfolding processor_of todo_in waiting_in
   same-processors m p holder = record { own = refl; others = λ q h n. refl }
 
@@ -76,7 +78,7 @@ module _ (g : Columns) where
   -- ---- a value kept aside
 
   abbrev pub aside_in : State → ℕ → ℕ → State
-  aside_in m p v = parts m.registers m.memory (set m.kept p v) m.at m.phase m.locations m.values m.issued m.drained m.holder m.own m.free
+  aside_in m p v = parts m.registers m.memory (set m.kept p v) m.at m.phase m.locations m.values m.issued m.drained m.holder m.own
 
   abbrev pub with_kept : ℕ → Processor → Processor
   with_kept v P = record { todo = P.todo; kept = v; registers = P.registers; waiting = P.waiting }

@@ -22,7 +22,7 @@ use Rattle.machine_state.specs.State.{State}
 
 module _ (g : Columns) (m : State) (ready : Ready g m) where
   abbrev done : ℕ → Bool
-  done p = done_at m.at g.counts m.drained m.issued p
+  done p = done_at g m p
 
   at-end : (p : ℕ) → p < processors → is_empty (todo_in g m p) ≡ eqb (get_or m.at p 0) (count_in g p)
   unfolding is_empty todo_in
@@ -56,7 +56,7 @@ module _ (g : Columns) (m : State) (ready : Ready g m) where
   four-and true false c d = refl
   four-and false b c d = refl
 
-  pub finished-is : finished_in m.at g.counts m.drained m.issued ≡ is_finished (machine_of g m)
+  pub finished-is : finished_in g m ≡ is_finished (machine_of g m)
   unfolding is_finished machine_of are_done
   finished-is =
       four-and (done 0) (done 1) (done 2) (done 3)

@@ -18,13 +18,15 @@ use Rattle.machine.specs.View.{todo_in, machine_of}
 use Rattle.machine_rules.specs.Steps.{step_kind, step_count}
 use Rattle.machine.specs.Arrays.{next_of}
 use Rattle.machine_rules.specs.Offers.{next_in}
-use Rattle.machine.specs.Stores.{next_place, is_last, next_at, next_phase, advanced_in, assigned_in, held_in, carried_out}
+use Rattle.machine.specs.Stores.{carried_out}
+use Rattle.machine_store.specs.Stores.{next_place, is_last, next_at, next_phase, advanced_in, assigned_in, held_in}
 use Rattle.machine.specs.Ready.{Long, Stands, ReadyAt, Ready}
 use Rattle.machine_rules.specs.Programs.{Fetched}
 use Rattle.machine.proofs.Todo.{step_for, by_kind, stands-next}
 use Rattle.machine.proofs.Changes.{at_next, at_other}
 use Rattle.machine.proofs.Sim.{is-instruction, rest, todo-next, goes_on}
 use Rattle.machine.proofs.Lengths.{set_long, either-long, stored-long, advanced-long}
+use Rattle.std.specs.Prelude.{Option, Some, None}
 use Rattle.machine_state.specs.State.{State}
 
 module _ (g : Columns) (m : State) (ready : Ready g m) (i : Record) (here : Fetched g i.processor (get_or m.at i.processor 0) i) (h : i.processor < processors) where
@@ -100,7 +102,7 @@ module _ (g : Columns) (m : State) (ready : Ready g m) (i : Record) (here : Fetc
           room = rw (own, w) (omega arith);
         }
 
-    held-long : (holder : ℕ) → Long (held_in m holder)
+    held-long : (holder : Option ℕ) → Long (held_in m holder)
     held-long holder = stored-long m ready.long _ _ _ _ _ holder m.own ready.long.registers ready.long.kept ready.long.log_locations ready.long.log_values ready.long.issued
 
     carries-fence : Carries 4
@@ -109,11 +111,11 @@ module _ (g : Columns) (m : State) (ready : Ready g m) (i : Record) (here : Fetc
 
     carries-lock : Carries 5
     unfolding carried_out next_in writes
-    carries-lock e = still (held_in m p) refl refl refl (held-long p) refl refl (ap writes e)
+    carries-lock e = still (held_in m (Some p)) refl refl refl (held-long (Some p)) refl refl (ap writes e)
 
     carries-unlock : Carries 6
     unfolding carried_out next_in writes
-    carries-unlock e = still (held_in m processors) refl refl refl (held-long processors) refl refl (ap writes e)
+    carries-unlock e = still (held_in m None) refl refl refl (held-long None) refl refl (ap writes e)
 
     carries-local : Carries 7
     unfolding carried_out next_in writes

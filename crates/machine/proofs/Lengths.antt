@@ -4,10 +4,11 @@ use mathlib.Core.Bool.{Bool, true, false, cond}
 use mathlib.Core.List.{List}
 use Prim.Native.Nat.{ℕ, ◌*◌}
 use lib.ListN.{length, set, length-set}
+use Rattle.std.specs.Prelude.{Option}
 use Rattle.model.specs.declared.record.Record.{Record}
 use Rattle.model.specs.Sizes.{processors, registers_each, locations, instructions_each}
 use Rattle.model.specs.Rules.{Event}
-use Rattle.machine.specs.Stores.{is_last, advanced_in, after_drain}
+use Rattle.machine_store.specs.Stores.{is_last, advanced_in, after_drain}
 use Rattle.machine.specs.Ready.{Long}
 use Rattle.machine_state.specs.State.{State, parts}
 
@@ -19,9 +20,9 @@ either-long true xs ys n h k = h
 either-long false xs ys n h k = k
 
 module _ (m : State) (l : Long m) where
-  pub stored-long : (registers kept locations values issued : List ℕ) (holder own : ℕ) → length registers ≡ processors * registers_each → length kept ≡ processors
+  pub stored-long : (registers kept locations values issued : List ℕ) (holder : Option ℕ) (own : ℕ) → length registers ≡ processors * registers_each → length kept ≡ processors
       → length locations ≡ processors * instructions_each → length values ≡ processors * instructions_each → length issued ≡ processors
-      → Long (parts registers m.memory kept m.at m.phase locations values issued m.drained holder own m.free)
+      → Long (parts registers m.memory kept m.at m.phase locations values issued m.drained holder own)
   stored-long registers kept locations values issued holder own r k x v n = record {
     registers = r;
     memory = l.memory;

@@ -13,7 +13,6 @@ pub mod Offered
 pub mod Counts
 pub mod Taken
 -- ---- the code's functions
-pub mod Stored
 pub mod Standing
 pub mod Nexts
 pub mod Taking

@@ -18,12 +18,12 @@ use Rattle.machine.specs.View.{waiting_in}
 use Rattle.machine.specs.Ready.{Long}
 use Rattle.machine_rules.proofs.Lookup.{part_none, part-some, part-more}
 use Rattle.machine_state.specs.State.{State, parts}
-use Rattle.machine.specs.Stores.{next_place}
+use Rattle.machine_store.specs.Stores.{next_place}
 
 abbrev pub pushed_in : State → ℕ → ℕ → ℕ → State
 pushed_in m p x v =
     parts m.registers m.memory m.kept m.at m.phase (set m.locations (next_place m.issued p) x) (set m.values (next_place m.issued p) v)
-    (set m.issued p (get_or m.issued p 0 + 1)) m.drained m.holder m.own m.free
+    (set m.issued p (get_or m.issued p 0 + 1)) m.drained m.holder m.own
 
 -- the waiting writes alone; those of q wait between its two numbers
 abbrev pub Bounds : State → ℕ → Type 0

@@ -23,12 +23,14 @@ use Rattle.machine.specs.View.{waiting_in, todo_in, processor_of, holder_of, mac
 use Rattle.machine_rules.specs.Steps.{step_kind, step_count}
 use Rattle.machine.specs.Arrays.{oldest_of, next_of}
 use Rattle.machine_rules.specs.Offers.{oldest_in, next_in}
-use Rattle.machine.specs.Stores.{advanced_in, after_drain, assigned_in, received_in, held_in, after_event}
-use Rattle.machine.specs.Ready.{Own, ReadyAt, Ready}
+use Rattle.machine.specs.Stores.{after_event}
+use Rattle.machine_store.specs.Stores.{advanced_in, after_drain, assigned_in, received_in, held_in}
+use Rattle.machine.specs.Ready.{ReadyAt, Ready}
+use Rattle.machine_store.specs.Stores.{Own}
 use Rattle.machine.proofs.Todo.{target_of, source_of, step_for, issues, exchanges-is, by_kind}
 use Rattle.machine.proofs.Logs.{pushed_in, newer_in, none-waits, some-wait, waits-none}
 use Rattle.machine.proofs.Changes.{Changes, same-processors, same-machine, then, processor-is, machine-is, with_register, assigned-changes, aside_in, with_kept, kept-changes, with_write, pushed-changes, drained-changes, advanced-changes}
-use Rattle.machine.proofs.Locks.{held_by}
+use Rattle.std.specs.Prelude.{Some, None}
 use Rattle.machine_state.specs.State.{State, parts}
 
 -- i is the instruction that the processor stands at
@@ -100,14 +102,12 @@ module _ (g : Columns) (m : State) (ready : Ready g m) (i : Record) (own : Own i
     fenced = sym (stepped m (λ P. P) refl refl (same-processors g m p m.holder))
 
     locked : with_holder (with_processor M p (advanced (processor M p) rest)) (held p) ≡ machine_of g (after_event m i (L p))
-    unfolding with_holder with_processor machine_of after_event
-    locked =
-        (λ j. record { processors = set M.processors p (advanced (processor M p) rest); memory = m.memory; holder = sym (held_by p own.processor) j })
-        ∙ sym (stepped (held_in m p) (λ P. P) refl refl (same-processors g m p p))
+    unfolding with_holder with_processor machine_of holder_of after_event
+    locked = sym (stepped (held_in m (Some p)) (λ P. P) refl refl (same-processors g m p (Some p)))
 
     unlocked : with_holder (with_processor M p (advanced (processor M p) rest)) free ≡ machine_of g (after_event m i (U p))
     unfolding with_holder with_processor machine_of holder_of after_event
-    unlocked = sym (stepped (held_in m processors) (λ P. P) refl refl (same-processors g m p processors))
+    unlocked = sym (stepped (held_in m None) (λ P. P) refl refl (same-processors g m p None))
 
     set_is : with_processor M p (assigned (processor M p) rest i.register i.value) ≡ machine_of g (after_event m i (N p))
     unfolding with_processor machine_of after_event assigned advanced
@@ -118,7 +118,7 @@ module _ (g : Columns) (m : State) (ready : Ready g m) (i : Record) (own : Own i
     read_is x v = go (acts_of i.kind).loads ∙ sym (same-machine g (advanced_in (received_in m i v) i) (origin_in (waiting_in m p) i.location))
       where
         go : (b : Bool) → with_processor M p (received (processor M p) rest (cond b (into i.register) aside) v)
-            ≡ machine_of g (advanced_in (parts (cond b (set m.registers (register_of i) v) m.registers) m.memory (cond b m.kept (set m.kept p v)) m.at m.phase m.locations m.values m.issued m.drained m.holder m.own m.free) i)
+            ≡ machine_of g (advanced_in (parts (cond b (set m.registers (register_of i) v) m.registers) m.memory (cond b m.kept (set m.kept p v)) m.at m.phase m.locations m.values m.issued m.drained m.holder m.own) i)
         go true = sym (stepped (assigned_in m i v) (with_register g i.register v) refl refl (assigned-changes g m i v own))
         go false = sym (stepped (aside_in g m p v) (with_kept g v) refl refl (kept-changes g m p v own.processor ready.long))
 
@@ -151,7 +151,7 @@ module _ (g : Columns) (m : State) (ready : Ready g m) (i : Record) (own : Own i
 
         go : (b : Bool) → with_processor M p (advanced (with_exchange b (write_of x v) (processor M p)) rest)
             ≡ machine_of g (advanced_in (parts (cond b (set m.registers (register_of i) (get_or m.kept p 0)) m.registers) m.memory m.kept m.at m.phase
-            (set m.locations (place_at p n) x) (set m.values (place_at p n) v) (set m.issued p (n + 1)) m.drained m.holder m.own m.free) i)
+            (set m.locations (place_at p n) x) (set m.values (place_at p n) v) (set m.issued p (n + 1)) m.drained m.holder m.own) i)
         go true = sym (stepped (assigned_in (pushed_in m p x v) i (get_or m.kept p 0)) (with_exchange true (write_of x v)) refl refl (exchange-changes x v pushes))
         go false = sym (stepped (pushed_in m p x v) (with_write g (write_of x v)) refl refl pushes)
 

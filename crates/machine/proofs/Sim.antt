@@ -26,8 +26,10 @@ use Rattle.machine_rules.specs.Programs.{fetched, Fetched}
 use Rattle.machine_rules.specs.Offers.{next_in, offered_in}
 use Rattle.machine.specs.Arrays.{oldest_of, next_of, offered_of}
 use Rattle.machine.specs.Next.{met_of, found_of}
-use Rattle.machine.specs.Stores.{is_last, advanced_in, after_event}
-use Rattle.machine.specs.Ready.{Own, ReadyAt, Ready}
+use Rattle.machine.specs.Stores.{after_event}
+use Rattle.machine_store.specs.Stores.{is_last, advanced_in}
+use Rattle.machine.specs.Ready.{ReadyAt, Ready}
+use Rattle.machine_store.specs.Stores.{Own}
 use Rattle.machine.proofs.Todo.{step_for, rest_at, none_left, next-left, rest-left}
 use Rattle.machine.proofs.Changes.{processor-is, at_next}
 use Rattle.machine.proofs.Locks.{blocked-is}

@@ -16,7 +16,8 @@ use Rattle.machine.specs.View.{todo_in, machine_of}
 use Rattle.machine_rules.specs.Steps.{step_kind}
 use Rattle.machine.specs.Arrays.{oldest_of, next_of, offered_of}
 use Rattle.machine_rules.specs.Offers.{oldest_in}
-use Rattle.machine.specs.Stores.{after_drain, carried_out, after_event}
+use Rattle.machine.specs.Stores.{carried_out, after_event}
+use Rattle.machine_store.specs.Stores.{after_drain}
 use Rattle.machine.specs.Ready.{ReadyAt, Ready}
 use Rattle.machine_rules.specs.Programs.{Fetched}
 use Rattle.machine.proofs.Lengths.{drained-long}

@@ -2,17 +2,13 @@
 use mathlib.Core.Path.{◌≡◌, refl, sym, ap, ◌∙◌, subst}
 use mathlib.Core.Bool.{Bool, true, false, cond, not}
 use mathlib.Core.Option.{Option, none, some}
-use mathlib.Core.List.{List}
 use Prim.Native.Nat.{ℕ, ◌+◌, ◌≤◌, ◌<◌}
 use native.Mathlib.Nat.{add-zero}
 use native.Mathlib.Omega.{arith}
-use lib.ListN.{get_or, set}
+use lib.ListN.{get_or}
 use lib.Dec.{eqb}
 use borrow.Author.Tests.{eqb-true, ne_eqb, not-false}
-use Rattle.model.specs.declared.answer.Attempt.{Attempt}
-use Rattle.model.specs.declared.answer.Attempt.TheVariants.{Taken, Turned}
-use Rattle.model.specs.declared.answer.Refusal.{Refusal}
-use Rattle.model.specs.declared.answer.Refusal.TheVariants.{StepRule}
+use Rattle.std.specs.Prelude.{Ok, Err, Some, None}
 use Rattle.model.specs.declared.answer.Condition.{Condition}
 use Rattle.model.specs.declared.answer.Condition.TheVariants.{AnotherKind, NothingWaits, LockHeld, NotRight}
 use Rattle.model.specs.declared.record.Record.{Record}
@@ -21,30 +17,31 @@ use Rattle.model.specs.Fields.{Proper}
 use Rattle.model.specs.Kinds.{step_uses}
 use Rattle.model.specs.Lists.{All}
 use Rattle.model.specs.Rules.{Event, event, conditions}
-use Rattle.model.specs.Code.{Columns, place_at, instruction_at, count_in, taken, judged}
+use Rattle.model.specs.Code.{Columns, Attempt, place_at, instruction_at, count_in, taken, judged}
 use Rattle.model.specs.Step.{same, first_met, took, stepped, after_move, step, served_own}
 use Rattle.model.proofs.Bools.{false-true, same_true}
 use Rattle.model.proofs.Conditions.{unmet}
 use Rattle.model.proofs.Rows.{below as number-by-number}
 use Rattle.machine_rules.specs.Guards.{blocked_in}
-use Rattle.machine_rules.specs.Steps.{steps_of_kind, step_kind}
+use Rattle.machine_rules.specs.declared.program.Step.{Step}
+use Rattle.machine_rules.specs.Steps.{steps_of_kind, step_kind, step_of, code_of, next_step}
+use Rattle.machine_rules.proofs.Codes.{no_step, code-is}
 use Rattle.machine_rules.specs.Programs.{fetched, Fetched}
 use Rattle.machine_rules.specs.Offers.{oldest_in, offered_in}
 use Rattle.machine_rules.proofs.Table.{rows, in_rows}
 use Rattle.machine_state.specs.State.{State}
-use Rattle.machine_state.specs.Packed.{memory_at, stands_at, phase_at, issued_at, drained_at, counts_in, state_in, columns_in}
-use Rattle.machine_store.specs.Stores.{one_more_drained, advanced, MayCount, Onward}
-use Rattle.machine_take.specs.Takes.{names}
+use Rattle.machine_store.specs.Stores.{MayCount, Onward}
+use Rattle.machine_take.specs.Takes.{names, LogOf}
 use Rattle.machine_drain.specs.Drains.{MayDrain, Drains}
 use Rattle.machine.specs.Arrays.{is_dry, oldest_of, next_of, offered_of}
-use Rattle.machine.specs.Stores.{after_drain, advanced_in, carried_out, after_event}
+use Rattle.machine.specs.Stores.{carried_out, after_event}
+use Rattle.machine_store.specs.Stores.{after_drain, advanced_in}
 use Rattle.machine.specs.View.{machine_of}
 use Rattle.machine.specs.Next.{MayTake, met_of, found_of, attempted_of, TakesNext}
 use Rattle.machine.specs.Ready.{Ready, Steps}
 use Rattle.model.proofs.Events.{some-kind, low-kind, low-processor, low-location, no_register, as-bare}
 use Rattle.machine.proofs.Moves.{offer}
 use Rattle.machine.proofs.Sim.{is_none, step_is, offered-after}
-use Rattle.machine.proofs.Stored as stored
 use Rattle.machine.proofs.Standing as standing
 use Rattle.machine.proofs.Standing.{Stays, stays}
 use Rattle.machine.proofs.Offered.{next-fields, bare-next}
@@ -174,10 +171,10 @@ module _ (g : Columns) (m : State) (ready : Ready g m) (e : Event) (proper : Pro
         (λ n l. absurd (omega arith), (λ n l. rw t, (λ n l. rw t, (λ n l. absurd (n refl), (λ n l. rw t, (λ n l. rw t, (λ n l. rw t, (λ n l. rw t, tt))))))))
         e.kind (low-kind e proper) n (some-kind e proper)
 
-    other : ¬ (e.kind ≡ step_kind i.kind (get_or m.phase q 0)) → Steps g m e (Turned (StepRule AnotherKind)) m
-    other k = settled (Turned (StepRule AnotherKind)) (ap judged (kind-first (ap not (ne_eqb e.kind o.kind (λ z. k (z ∙ next-kind)))))) m refl
+    other : ¬ (e.kind ≡ step_kind i.kind (get_or m.phase q 0)) → Steps g m e (Err AnotherKind) m
+    other k = settled (Err AnotherKind) (ap judged (kind-first (ap not (ne_eqb e.kind o.kind (λ z. k (z ∙ next-kind)))))) m refl
 
-    past : count_in g q ≤ get_or m.at q 0 → Steps g m e (Turned (StepRule AnotherKind)) m
+    past : count_in g q ≤ get_or m.at q 0 → Steps g m e (Err AnotherKind) m
     unfolding step_kind steps_of_kind
     past l =
         let none : i.kind ≡ 0 = ap (λ (r : Record). r.kind) (is_none g m ready i here h l) in
@@ -200,13 +197,7 @@ module _ (g : Columns) (m : State) (ready : Ready g m) (e : Event) (proper : Pro
 
 -- ---- the code's branches
 
-module _ (codes constants cells locations values marks : List ℕ) (ready : Ready (columns_in codes constants) (state_in cells locations values marks)) (e : Event) (proper : Proper step_uses e) where
-  abbrev g : Columns
-  g = columns_in codes constants
-
-  abbrev m : State
-  m = state_in cells locations values marks
-
+module _ (g : Columns) (m : State) (ready : Ready g m) (e : Event) (proper : Proper step_uses e) where
   abbrev p : ℕ
   p = e.processor
 
@@ -217,101 +208,85 @@ module _ (codes constants cells locations values marks : List ℕ) (ready : Read
   whose : p ≡ (fetched g p (get_or m.at p 0)).processor
   whose = standing.any-whose g m ready p h
 
-  n-is : get_or marks (issued_at p) 0 ≡ get_or m.issued p 0
-  n-is = standing.n-is _ _ _ _ _ _ ready p h
-
-  d-is : get_or marks (drained_at p) 0 ≡ get_or m.drained p 0
-  d-is = standing.d-is _ _ _ _ _ _ ready p h
-
-  a-is : get_or marks (stands_at p) 0 ≡ get_or m.at p 0
-  a-is = standing.a-is _ _ _ _ _ _ ready p h
-
   -- ---- a drain
 
-  pub can-drain : MayDrain locations values marks e
-  can-drain = record { log = standing.log _ _ _ _ _ _ ready p h; location = low-location e proper }
+  pub can-drain : MayDrain m e
+  can-drain = record { log = standing.log g m ready p h; location = low-location e proper }
 
-  pub drains-it : e.kind ≡ 3 → (r : Attempt) (cells' marks' : List ℕ) → Drains cells locations values marks e r cells' marks' → Steps g m e r (state_in cells' locations values marks')
-  unfolding state_in first_met conditions
-  drains-it k r cells' marks' t =
-      drained-at g m ready e proper _ (standing.any-own g m ready p h) (standing.any-low g m ready p h) whose k r (t.says ∙ (λ j. judged (drained-as g m ready e proper _ (standing.any-own g m ready p h) (standing.any-low g m ready p h) whose p (d-is j) (n-is j)))) _
-      (go r t.cells_after t.marks_after)
-    where
-      go : (a : Attempt) → cells' ≡ cond (taken a) (set cells (memory_at e.location) e.value) cells → marks' ≡ cond (taken a) (one_more_drained marks p) marks
-          → state_in cells' locations values marks' ≡ cond (taken a) (after_drain m e) m
-      go Taken ec ek = (λ j. state_in (ec j) locations values (ek j)) ∙ stored.drained-is cells locations values marks e h (low-location e proper)
-      go (Turned why) ec ek = λ j. state_in (ec j) locations values (ek j)
+  pub drains-it : e.kind ≡ 3 → (r : Attempt) (n : State) → Drains m e r n → Steps g m e r n
+  unfolding first_met conditions
+  drains-it k r n t = drained-at g m ready e proper _ (standing.any-own g m ready p h) (standing.any-low g m ready p h) whose k r t.says n t.after
 
   -- ---- a program step
 
-  pub at-the-end : ¬ (e.kind ≡ 3) → get_or (counts_in codes) p 0 ≤ get_or marks (stands_at p) 0 → Steps g m e (Turned (StepRule AnotherKind)) m
-  unfolding columns_in
+  pub at-the-end : ¬ (e.kind ≡ 3) → count_in g p ≤ get_or m.at p 0 → Steps g m e (Err AnotherKind) m
   at-the-end n l =
-      let a = a-is in
-      let l' : count_in g p ≤ get_or m.at p 0 = omega arith in
-      past g m ready e proper _ (standing.any-own g m ready p h) (standing.any-low g m ready p h) whose n (subst (λ (q : ℕ). count_in g q ≤ get_or m.at q 0) whose l')
+      past g m ready e proper _ (standing.any-own g m ready p h) (standing.any-low g m ready p h) whose n (subst (λ (q : ℕ). count_in g q ≤ get_or m.at q 0) whose l)
 
-  module _ (l : get_or marks (stands_at p) 0 < get_or (counts_in codes) p 0) where
-    inside : get_or m.at p 0 < count_in g p
-    unfolding columns_in
-    inside = let a = a-is in omega arith
+  module _ (inside : get_or m.at p 0 < count_in g p) where
+    pub below : get_or m.at p 0 < instructions_each
+    below = standing.below g m ready p h inside
 
-    pub below : get_or marks (stands_at p) 0 < instructions_each
-    below = standing.below _ _ _ _ _ _ ready p h inside
-
-    module _ (i : Record) (read : i ≡ instruction_at g p (get_or marks (stands_at p) 0)) where
+    module _ (i : Record) (read : i ≡ instruction_at g p (get_or m.at p 0)) where
       its : i.processor ≡ p
-      its = standing.its _ _ _ _ _ _ ready p h inside i read
+      its = standing.its g m ready p h inside i read
 
       here : Fetched g i.processor (get_or m.at i.processor 0) i
-      here = standing.here _ _ _ _ _ _ ready p h inside i read
+      here = standing.here g m ready p h inside i read
 
       own-low : i.processor < processors
-      own-low = standing.own-low _ _ _ _ _ _ ready p h inside i read
+      own-low = standing.own-low g m ready p h inside i read
 
-      pub known-kind : (i.kind < rows) × (get_or marks (phase_at p) 0 < phases)
-      known-kind = (in_rows here.kind, standing.low-phase _ _ _ _ _ _ ready p h)
+      pub known-kind : (i.kind < rows) × (get_or m.phase p 0 < phases)
+      known-kind = (in_rows here.kind, (ready.each p h).stands.phase)
 
-      kind-is : step_kind i.kind (get_or marks (phase_at p) 0) ≡ step_kind i.kind (get_or m.phase i.processor 0)
-      kind-is = standing.kind-is _ _ _ _ _ _ ready p h inside i read
+      kind-is : step_kind i.kind (get_or m.phase p 0) ≡ step_kind i.kind (get_or m.phase i.processor 0)
+      kind-is = standing.kind-is g m ready p h inside i read
 
-      pub another : ¬ (e.kind ≡ 3) → ¬ (e.kind ≡ step_kind i.kind (get_or marks (phase_at p) 0)) → Steps g m e (Turned (StepRule AnotherKind)) m
+      another : ¬ (e.kind ≡ 3) → ¬ (e.kind ≡ step_kind i.kind (get_or m.phase p 0)) → Steps g m e (Err AnotherKind) m
       another n z = other g m ready e proper i here own-low (sym its) n (λ w. z (w ∙ sym kind-is))
 
-      module _ (n : ¬ (e.kind ≡ 3)) (next : e.kind ≡ step_kind i.kind (get_or marks (phase_at p) 0)) where
-        countable : MayCount marks
-        unfolding state_in
+      pub none-left : ¬ (e.kind ≡ 3) → None ≡ next_step i.kind (get_or m.phase p 0) → Steps g m e (Err AnotherKind) m
+      none-left n z = another n (λ w. no_step e.kind (some-kind e proper) (low-kind e proper) (ap step_of w ∙ sym z))
+
+      pub not-so : ¬ (e.kind ≡ 3) → (next : Step) → Some next ≡ next_step i.kind (get_or m.phase p 0) → ¬ (code_of next ≡ e.kind) → Steps g m e (Err AnotherKind) m
+      not-so n next z k = another n (λ w. k (code-is next _ z ∙ sym w))
+
+      module _ (n : ¬ (e.kind ≡ 3)) (step : Step) (offered : Some step ≡ next_step i.kind (get_or m.phase p 0)) (is : code_of step ≡ e.kind) where
+        next : e.kind ≡ step_kind i.kind (get_or m.phase p 0)
+        next = sym is ∙ code-is step _ offered
+
+        countable : MayCount m
         countable = countable-at g m ready e proper i here own-low (sym its) n (next ∙ kind-is)
 
-        pub may-take : MayTake locations values marks i e
+        pub may-take : MayTake m i step e
         may-take = record {
           proper = proper;
+          kind = is;
           program = n;
-          own = its;
-          log = standing.log _ _ _ _ _ _ ready p h;
-          has_marks = standing.has-marks _ _ _ _ _ _ ready p h;
+          whose = its;
+          own = record { processor = own-low; register = here.register };
+          log = subst (LogOf m) (sym its) (standing.log g m ready p h);
           count = countable;
-          register = here.register;
           location = here.location;
-          write = λ z. standing.issuable _ _ _ _ _ _ ready p h inside i read (sym next ∙ z);
+          write = λ z. standing.issuable g m ready p h inside i read (sym next ∙ z);
         }
 
-        module _ (r : Attempt) (cells' locations' values' marks' : List ℕ) (t : TakesNext m i e r (state_in cells' locations' values' marks')) where
-          pub onwards : Onward marks' i.kind p
-          onwards = standing.onwards _ _ _ _ _ _ ready p h inside i read cells' locations' values' marks' (subst (Stays m) (sym t.after) (go r))
+        module _ (r : Attempt) (s : State) (t : TakesNext m i e r s) where
+          pub onwards : Onward s i
+          onwards = standing.onwards g m ready p h inside i read s (subst (Stays m) (sym t.after) (go r))
             where
               go : (a : Attempt) → Stays m (cond (taken a) (carried_out m i e) m)
-              go Taken = stays m i e
-              go (Turned why) = (refl, refl)
+              go (Ok u) = stays m i e
+              go (Err c) = (refl, refl)
 
-          after : (a : Attempt) → r ≡ a → state_in cells' locations' values' marks' ≡ cond (taken a) (carried_out m i e) m
+          after : (a : Attempt) → r ≡ a → s ≡ cond (taken a) (carried_out m i e) m
           after a y = t.after ∙ ap (λ (a : Attempt). cond (taken a) (carried_out m i e) m) y
 
-          pub takes-it : r ≡ Taken → (marks'' : List ℕ) → marks'' ≡ advanced marks' i.kind p → Steps g m e Taken (state_in cells' locations' values' marks'')
-          takes-it y marks'' f =
-              taken_at g m ready e proper i here own-low (sym its) n (next ∙ kind-is) Taken (sym y ∙ t.says) _
-              (ap (state_in cells' locations' values') (f ∙ ap (advanced marks' i.kind) (sym its)) ∙ stored.advanced-is cells' locations' values' marks' i own-low
-              ∙ ap (λ (s : State). advanced_in s i) (after Taken y))
+          pub takes-it : r ≡ Ok tt → (u : State) → u ≡ advanced_in s i → Steps g m e (Ok tt) u
+          takes-it y u f =
+              taken_at g m ready e proper i here own-low (sym its) n (next ∙ kind-is) (Ok tt) (sym y ∙ t.says) u
+              (f ∙ ap (λ (s : State). advanced_in s i) (after (Ok tt) y))
 
-          pub turns-it : (why : Refusal) → r ≡ Turned why → Steps g m e (Turned why) (state_in cells' locations' values' marks')
-          turns-it why y = taken_at g m ready e proper i here own-low (sym its) n (next ∙ kind-is) (Turned why) (sym y ∙ t.says) _ (after (Turned why) y)
+          pub turns-it : (why : Condition) → r ≡ Err why → Steps g m e (Err why) s
+          turns-it why y = taken_at g m ready e proper i here own-low (sym its) n (next ∙ kind-is) (Err why) (sym y ∙ t.says) s (after (Err why) y)

@@ -14,7 +14,7 @@ abbrev pub start_in : Cells → State
 start_in c =
     let zeros : List ℕ = replicate processors 0 in
     let log : ℕ → List ℕ = replicate (processors * instructions_each) in
-    parts c.registers c.memory zeros zeros zeros (log 0) (log unread) zeros zeros nobody 0 (replicate 2 0)
+    parts c.registers c.memory zeros zeros zeros (log 0) (log unread) zeros zeros nobody 0
 
 -- ---- the step that a processor can come to in it
 

@@ -1,34 +1,34 @@
 -- What taking the next program step asks and promises. i is the instruction that the processor stands at, e the step.
-use Rattle.std.specs.Prelude.{◌≡◌, Bool, cond, not, List, ℕ, ◌<◌, length, eqb}
+use Rattle.std.specs.Prelude.{◌≡◌, Bool, cond, not, ◌<◌, eqb}
 use Rattle.std.proofs.Math.Option.{Option}
-use Rattle.model.specs.declared.answer.Attempt.{Attempt}
 use Rattle.model.specs.declared.answer.Condition.{Condition}
 use Rattle.model.specs.declared.answer.Condition.TheVariants.{AnotherKind, NothingWaits, LockHeld, BufferNotEmpty, NotRight}
 use Rattle.model.specs.declared.record.Record.{Record}
 use Rattle.model.specs.Sizes as sizes
-use Rattle.model.specs.Sizes.{registers_each}
 use Rattle.model.specs.Fields.{Proper}
 use Rattle.model.specs.Kinds.{step_uses}
 use Rattle.model.specs.Rules.{Event, conditions}
 use Rattle.model.specs.Step.{same, first_met}
-use Rattle.model.specs.Code.{taken, judged}
+use Rattle.model.specs.Code.{Attempt, taken, judged}
+use Rattle.machine_rules.specs.declared.program.Step.{Step}
 use Rattle.machine_rules.specs.Guards.{blocked_in}
+use Rattle.machine_rules.specs.Steps.{code_of}
 use Rattle.machine_state.specs.State.{State}
-use Rattle.machine_store.specs.Stores.{Issuable, MayCount}
+use Rattle.machine_store.specs.Stores.{Own, Issuable, MayCount}
 use Rattle.machine_take.specs.Takes.{LogOf}
 use Rattle.machine.specs.Arrays.{is_dry, next_of}
 use Rattle.machine.specs.Stores.{carried_out}
 
-pub record MayTake (locations values marks : List ℕ) (i : Record) (e : Event) : Type 0 where
+pub record MayTake (m : State) (i : Record) (next : Step) (e : Event) : Type 0 where
   pub proper : Proper step_uses e
+  pub kind : code_of next ≡ e.kind
   pub program : ¬ (e.kind ≡ 3)
-  pub own : i.processor ≡ e.processor
-  pub log : LogOf locations values marks e.processor
-  pub has_marks : 1 < length marks
-  pub count : MayCount marks
-  pub register : i.register < registers_each
+  pub whose : i.processor ≡ e.processor
+  pub own : Own i
+  pub log : LogOf m i.processor
+  pub count : MayCount m
   pub location : i.location < sizes.locations
-  pub write : e.kind ≡ 2 → Issuable marks e.processor
+  pub write : e.kind ≡ 2 → Issuable m i.processor
 
 -- whether a condition is met for the step e, where its processor can come to the step o
 abbrev pub met_of : State → Record → Event → Event → Condition → Bool

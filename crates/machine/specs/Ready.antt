@@ -1,20 +1,13 @@
 -- What holds of a state at every step, and what a step promises.
 use Rattle.std.specs.Prelude.{◌≡◌, ℕ, ◌+◌, ◌*◌, ◌≤◌, ◌<◌, false, cond, length, get_or}
-use Rattle.model.specs.declared.answer.Attempt.{Attempt}
-use Rattle.model.specs.declared.record.Record.{Record}
 use Rattle.model.specs.Sizes.{processors, registers_each, locations, instructions_each, phases, longest_trace}
 use Rattle.model.specs.Left.{writes, left}
 use Rattle.model.specs.Step.{step, served_own}
-use Rattle.model.specs.Code.{Columns, instruction_at, count_in, Fits, taken, stepped_of}
+use Rattle.model.specs.Code.{Columns, Attempt, instruction_at, count_in, Fits, taken, stepped_of}
 use Rattle.model.specs.Rules.{Event}
 use Rattle.machine_rules.specs.Steps.{step_count}
 use Rattle.machine.specs.View.{todo_in, machine_of}
 use Rattle.machine_state.specs.State.{State}
-
--- an instruction's own register
-pub record Own (i : Record) : Type 0 where
-  pub processor : i.processor < processors
-  pub register : i.register < registers_each
 
 -- ---- at every step, where g has the programs
 

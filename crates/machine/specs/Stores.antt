@@ -1,73 +1,12 @@
 -- The state after a step. i is the instruction that the processor stands at, e the step.
-use Rattle.std.specs.Prelude.{Bool, cond, List, [], ◌∷◌, ℕ, ◌+◌, get_or, set, eqb}
-use Rattle.model.specs.Code.{place_at, register_of, acts_of}
+use Rattle.std.specs.Prelude.{cond, [], ◌∷◌, get_or, eqb, Some}
 use Rattle.model.specs.declared.record.Record.{Record}
-use Rattle.model.specs.declared.origin.Origin.{Origin}
-use Rattle.model.specs.Rules.{Event, served}
+use Rattle.model.specs.Rules.{Event}
 use Rattle.model.specs.Step.{origin_in}
 use Rattle.machine.specs.View.{waiting_in}
 use Rattle.machine_rules.specs.Guards.{nobody}
-use Rattle.machine_rules.specs.Steps.{step_count}
-use Rattle.machine_state.specs.State.{State, parts}
-
--- ---- list by list: `kind` is that of the instruction that processor p stands at, c the place of its register among all
-
-abbrev pub received_registers : List ℕ → ℕ → ℕ → ℕ → List ℕ
-received_registers registers kind c v = cond (acts_of kind).loads (set registers c v) registers
-
-abbrev pub received_kept : List ℕ → ℕ → ℕ → ℕ → List ℕ
-received_kept kept kind p v = cond (acts_of kind).loads kept (set kept p v)
-
-abbrev pub exchanged_registers : List ℕ → List ℕ → ℕ → ℕ → ℕ → List ℕ
-exchanged_registers registers kept kind p c = cond (acts_of kind).exchanges (set registers c (get_or kept p 0)) registers
-
-abbrev pub next_place : List ℕ → ℕ → ℕ
-next_place issued p = place_at p (get_or issued p 0)
-
--- past one program step: the next one of the instruction or, after its last, the next instruction
-abbrev pub is_last : List ℕ → ℕ → ℕ → Bool
-is_last phase kind p = eqb (get_or phase p 0 + 1) (step_count kind)
-
-abbrev pub next_at : List ℕ → List ℕ → ℕ → ℕ → List ℕ
-next_at at phase kind p = cond (is_last phase kind p) (set at p (get_or at p 0 + 1)) at
-
-abbrev pub next_phase : List ℕ → ℕ → ℕ → List ℕ
-next_phase phase kind p = set phase p (cond (is_last phase kind p) 0 (get_or phase p 0 + 1))
-
--- ---- the whole state
-
-abbrev pub after_drain : State → Event → State
-after_drain m e =
-    parts m.registers (set m.memory e.location e.value) m.kept m.at m.phase m.locations m.values m.issued
-    (set m.drained e.processor (get_or m.drained e.processor 0 + 1)) m.holder m.own m.free
-
-abbrev pub assigned_in : State → Record → ℕ → State
-assigned_in m i v =
-    parts (set m.registers (register_of i) v) m.memory m.kept m.at m.phase m.locations m.values m.issued m.drained m.holder m.own m.free
-
-abbrev pub received_in : State → Record → ℕ → State
-received_in m i v =
-    parts (received_registers m.registers i.kind (register_of i) v) m.memory (received_kept m.kept i.kind i.processor v) m.at m.phase m.locations m.values m.issued
-    m.drained m.holder m.own m.free
-
--- a read, by where it got its value
-abbrev pub counted_in : State → Origin → State
-counted_in m from =
-    parts m.registers m.memory m.kept m.at m.phase m.locations m.values m.issued m.drained m.holder (m.own + served from) m.free
-
-abbrev pub wrote_in : State → Record → Event → State
-wrote_in m i e =
-    let p = i.processor in
-    parts (exchanged_registers m.registers m.kept i.kind i.processor (register_of i)) m.memory m.kept m.at m.phase (set m.locations (next_place m.issued p) e.location)
-    (set m.values (next_place m.issued p) e.value) (set m.issued p (get_or m.issued p 0 + 1)) m.drained m.holder m.own m.free
-
-abbrev pub held_in : State → ℕ → State
-held_in m holder = parts m.registers m.memory m.kept m.at m.phase m.locations m.values m.issued m.drained holder m.own m.free
-
-abbrev pub advanced_in : State → Record → State
-advanced_in m i =
-    parts m.registers m.memory m.kept (next_at m.at m.phase i.kind i.processor) (next_phase m.phase i.kind i.processor) m.locations m.values m.issued
-    m.drained m.holder m.own m.free
+use Rattle.machine_state.specs.State.{State}
+use Rattle.machine_store.specs.Stores.{after_drain, assigned_in, received_in, counted_in, wrote_in, held_in, advanced_in}
 
 -- a program step, before the program goes on: by its kind, from 0 on
 unfoldable pub carried_out : State → Record → Event → State
@@ -79,7 +18,7 @@ carried_out m i e =
     ∷ wrote_in m i e  -- write
     ∷ m
     ∷ m  -- fence
-    ∷ held_in m i.processor  -- lock
+    ∷ held_in m (Some i.processor)  -- lock
     ∷ held_in m nobody  -- unlock
     ∷ assigned_in m i i.value  -- local
     ∷ [])

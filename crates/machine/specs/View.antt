@@ -1,12 +1,11 @@
 -- The machine that a state stands for, where g has the programs.
-use Rattle.std.specs.Prelude.{cond, List, ℕ, ◌-◌, get_or, drop, eqb}
+use Rattle.std.specs.Prelude.{List, ℕ, ◌-◌, get_or, drop, Option, Some, None}
 use Rattle.model.specs.Sizes.{registers_each}
 use Rattle.model.specs.Program.{ProgramStep}
 use Rattle.model.specs.Machine as model
 use Rattle.model.specs.Machine.{WaitingWrite, Processor, Holder, free, held}
 use Rattle.model.specs.Code.{Columns, row, four, steps_from, count_in}
 use Rattle.model.specs.Calls.{Reached, reached}
-use Rattle.machine_rules.specs.Guards.{nobody}
 use Rattle.machine_rules.specs.Offers.{writes_in, waiting_from}
 use Rattle.machine_state.specs.State.{State}
 
@@ -27,8 +26,9 @@ unfoldable pub processor_of : Columns → State → ℕ → Processor
 unfolding todo_in waiting_in
 processor_of g m p = record { todo = todo_in g m p; kept = get_or m.kept p 0; registers = row registers_each p m.registers; waiting = waiting_in m p }
 
-unfoldable pub holder_of : ℕ → Holder
-holder_of h = cond (eqb h nobody) free (held h)
+unfoldable pub holder_of : Option ℕ → Holder
+holder_of None = free
+holder_of (Some p) = held p
 
 unfoldable pub machine_of : Columns → State → model.Machine
 unfolding processor_of holder_of

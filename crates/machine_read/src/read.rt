@@ -3,39 +3,28 @@ ghost use Rattle.machine_read.specs.Reads.{MayRead, Reads};
 
 use machine_rules::{guards, waiting};
 use machine_state::state::Machine;
-use model::answer::{Attempt, Condition, Refusal};
+use model::answer::{Attempt, Condition};
 use model::record::Record;
-use model::table::{Cells, Program};
 
 // A read of what the processor sees.
-pub fn read<'a>(
-    cells: &'a mut [u32; Machine::CELLS],
-    locations: &'a [u8; Program::PLACES],
-    values: &'a [u32; Program::PLACES],
-    marks: &'a mut [usize; Machine::MARKS],
-    i: Record,
-    e: Record,
-) -> Attempt
-    requires { MayRead locations.now values.now marks.old i e }
-    ensures { Reads cells.old locations.now values.now marks.old i e
-        result cells.new marks.new }
+pub fn read(m: &mut Machine, i: Record, e: Record) -> Attempt
+    requires { MayRead m.old i }
+    ensures { Reads m.old i e result m.new }
 {
-    let p = e.processor as usize;
-    let held = guards::blocked(marks[Machine::HOLDER], p);
-    let n = marks[Machine::ISSUED + p];
-    let d = marks[Machine::DRAINED + p];
-    let cell = Machine::MEMORY + (i.location as usize);
-    let from = waiting::origin(locations, n, d, p, i.location);
-    let seen = waiting::value(values, d, p, from, cells[cell]);
+    let p = i.processor as usize;
+    let held = guards::blocked(m.holder, p);
+    let n = m.issued[p];
+    let d = m.drained[p];
+    let from = waiting::origin(&m.locations, n, d, p, i.location);
+    let seen = waiting::value(&m.values, d, p, from, m.memory[i.location as usize]);
     let right = (e.location == i.location) & (e.value == seen);
     if held {
-        return Attempt::Turned(Refusal::StepRule(Condition::LockHeld));
+        return Err(Condition::LockHeld);
     }
-    if right {
-        let c = Cells::REGISTERS * p + (i.register as usize);
-        machine_store::receive(cells, i.kind, p, c, e.value);
-        machine_store::count(marks, from);
-        return Attempt::Taken;
+    if !right {
+        return Err(Condition::NotRight);
     }
-    Attempt::Turned(Refusal::StepRule(Condition::NotRight))
+    machine_store::receive(m, i, e.value);
+    machine_store::count(m, from);
+    Ok(())
 }

@@ -2,3 +2,4 @@ pub mod Table
 pub mod Instructions
 pub mod Lookup
 pub mod Offers
+pub mod Codes

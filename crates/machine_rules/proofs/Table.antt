@@ -3,7 +3,9 @@ use Rattle.std.proofs.Common.{◌≡◌, ℕ, zero, suc, ◌<◌, Bool, true, �
 use Rattle.model.proofs.Bools.{and_left, and_right}
 use Rattle.model.specs.Sizes.{phases}
 use Rattle.model.specs.Kinds.{table_uses, table_rows}
-use Rattle.machine_rules.specs.Steps.{step_kind, step_count}
+use Rattle.std.specs.Prelude.{Option, None}
+use Rattle.machine_rules.specs.declared.program.Step.{Step}
+use Rattle.machine_rules.specs.Steps.{step_count, next_step}
 
 -- the rows of the code's tables, Role::KINDS: one for each kind
 abbrev pub rows : ℕ
@@ -23,8 +25,9 @@ at zero f d k h = absurd (omega arith)
 at (suc n) f d zero h = refl
 at (suc n) f d (suc k) h = at n (λ k. f (suc k)) d k (omega arith)
 
-pub kinds-are : (k f : ℕ) → k < table_rows → f < phases → get_or (get_or (up_to table_rows (λ k. up_to phases (step_kind k))) k []) f 0 ≡ step_kind k f
-kinds-are k f h l = ap (λ (row : List ℕ). get_or row f 0) (at table_rows (λ k. up_to phases (step_kind k)) [] k h) ∙ at phases (step_kind k) 0 f l
+pub steps-are : (k f : ℕ) → k < table_rows → f < phases
+    → get_or (get_or (up_to table_rows (λ k. up_to phases (next_step k))) k []) f None ≡ next_step k f
+steps-are k f h l = ap (λ (row : List (Option Step)). get_or row f None) (at table_rows (λ k. up_to phases (next_step k)) [] k h) ∙ at phases (next_step k) None f l
 
 pub counts-are : (k : ℕ) → k < table_rows → get_or (up_to table_rows step_count) k 0 ≡ step_count k
 counts-are k h = at table_rows step_count 0 k h

@@ -1,11 +1,11 @@
--- Who holds the lock, as a number.
-use Rattle.std.specs.Prelude.{ℕ, Bool, not, ◌&&◌, ◌==◌}
-use Rattle.model.specs.Sizes.{processors}
+-- Who holds the lock.
+use Rattle.std.specs.Prelude.{ℕ, Bool, false, not, ◌==◌, Option, Some, None}
 
 -- the holder of a free lock
-abbrev pub nobody : ℕ
-nobody = processors
+abbrev pub nobody : Option ℕ
+nobody = None
 
 -- another processor than p holds the lock
-abbrev pub blocked_in : ℕ → ℕ → Bool
-blocked_in holder p = not (holder == nobody) && not (holder == p)
+abbrev pub blocked_in : Option ℕ → ℕ → Bool
+blocked_in None p = false
+blocked_in (Some holder) p = not (holder == p)

@@ -3,7 +3,7 @@ use Rattle.std.specs.Prelude.{◌≡◌, ℕ, ◌*◌, ◌<◌, ◌≤◌, cond,
 use Rattle.std.proofs.Math.Seq.{slice}
 use Rattle.model.specs.Code.{place_at, acts_of}
 use Rattle.model.specs.declared.record.Record.{Record}
-use Rattle.model.specs.Sizes.{processors, locations, instructions_each}
+use Rattle.model.specs.Sizes.{processors, instructions_each}
 use Rattle.model.specs.Machine.{WaitingWrite, write_of}
 use Rattle.model.specs.Rules.{Event, event}
 use Rattle.model.specs.Step.{seen_in}

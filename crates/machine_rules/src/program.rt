@@ -1,29 +1,80 @@
 // The program steps of each kind of instruction.
 ghost use Rattle.std.specs.Prelude.{◌≡◌, ◌<◌};
-ghost use Rattle.machine_rules.specs.Steps.{step_kind, step_count};
+ghost use Rattle.machine_rules.specs.Steps.{step_count, code_of, next_step, Decodes};
 
 use model::kind::Role;
 
 // The kinds of steps.
-pub const READ: u8 = 1;
+#[derive(Clone, Copy, PartialEq, Eq)]
+pub enum Step {
+    Read,
+    Write,
+    // No program step: it takes the oldest waiting write.
+    Drain,
+    Fence,
+    Lock,
+    Unlock,
+    Local,
+}
 
-pub const WRITE: u8 = 2;
+// By its number in a trace.
+impl From<Step> for u8 {
+    ghost from_gives = { λ step kind. kind ≡ code_of step };
 
-pub const DRAIN: u8 = 3;
+    fn from(step: Step) -> u8 {
+        match step {
+            Step::Read => 1,
+            Step::Write => 2,
+            Step::Drain => 3,
+            Step::Fence => 4,
+            Step::Lock => 5,
+            Step::Unlock => 6,
+            Step::Local => 7,
+        }
+    }
+}
 
-pub const FENCE: u8 = 4;
+// A number that no kind of step has.
+#[derive(Clone, Copy)]
+pub struct NoStep;
 
-pub const LOCK: u8 = 5;
+impl TryFrom<u8> for Step {
+    type Error = NoStep;
 
-pub const UNLOCK: u8 = 6;
+    ghost try_from_gives = { Decodes };
 
-pub const LOCAL: u8 = 7;
+    #[tactic(auto, unfolding(crate::specs::Steps::step_of))]
+    fn try_from(kind: u8) -> Result<Step, NoStep> {
+        match kind {
+            1 => Ok(Step::Read),
+            2 => Ok(Step::Write),
+            3 => Ok(Step::Drain),
+            4 => Ok(Step::Fence),
+            5 => Ok(Step::Lock),
+            6 => Ok(Step::Unlock),
+            7 => Ok(Step::Local),
+            _ => Err(NoStep),
+        }
+    }
+}
+
+const READ: Option<Step> = Some(Step::Read);
+
+const WRITE: Option<Step> = Some(Step::Write);
+
+const FENCE: Option<Step> = Some(Step::Fence);
+
+const LOCK: Option<Step> = Some(Step::Lock);
+
+const UNLOCK: Option<Step> = Some(Step::Unlock);
+
+const LOCAL: Option<Step> = Some(Step::Local);
 
 // Past the last program step.
-const NONE: u8 = 0;
+const NONE: Option<Step> = None;
 
-// The program steps of each instruction kind, in order.
-const STEPS: [[u8; Role::PHASES]; Role::KINDS] = [
+// The program steps of each instruction kind, in order. A static: a const that is indexed is written to the stack at each look.
+static STEPS: [[Option<Step>; Role::PHASES]; Role::KINDS] = [
     [NONE, NONE, NONE, NONE], // 0 no kind
     [NONE, NONE, NONE, NONE], // 1 initial memory
     [NONE, NONE, NONE, NONE], // 2 initial register
@@ -38,21 +89,20 @@ const STEPS: [[u8; Role::PHASES]; Role::KINDS] = [
     [LOCK, READ, WRITE, UNLOCK], // 11 locked exchange-and-add
 ];
 
-// And how many they are. Numbers of two bytes take fewer stores to set up than bytes.
-const COUNTS: [u16; Role::KINDS] = [0, 0, 0, 1, 1, 1, 1, 1, 2, 4, 2, 4];
+// And how many they are. Stays beside STEPS: document 01's named form is a table of tables with step counts.
+static COUNTS: [u8; Role::KINDS] = [0, 0, 0, 1, 1, 1, 1, 1, 2, 4, 2, 4];
 
-pub fn step_kind(kind: u8, phase: usize) -> u8
+// The step `phase` of them, if there is one. The kind stays a byte, here and below: it is the record's, and a row of the named form's table.
+pub fn next_step(kind: u8, phase: usize) -> Option<Step>
     requires { (kind < Role.KINDS) × (phase < Role.PHASES) }
-    ensures { result ≡ step_kind kind phase }
+    ensures { result ≡ next_step kind phase }
 {
-    let k = kind as usize;
-    STEPS[k][phase]
+    STEPS[usize::from(kind)][phase]
 }
 
 pub fn step_count(kind: u8) -> usize
     requires { kind < Role.KINDS }
     ensures { result ≡ step_count kind }
 {
-    let k = kind as usize;
-    COUNTS[k] as usize
+    usize::from(COUNTS[usize::from(kind)])
 }

@@ -8,6 +8,7 @@ use model::origin::Origin;
 use model::table::Program;
 
 // Where a read of x gets its value, if writes to these locations wait: the newest of them to x or, with none, memory.
+// Stays a loop: document 01's named form for this place is a loop from the newest that yields the position, or none, by break.
 fn newest(locations: &[u8], x: u8) -> Origin
     ensures { Finds locations.now x result }
 {
@@ -23,7 +24,7 @@ fn newest(locations: &[u8], x: u8) -> Origin
     }
 }
 
-// Where processor p's read of x gets its value.
+// Where processor p's read of x gets its value. Issued, drained and p stay arguments: this crate knows no machine.
 pub fn origin(
     locations: &[u8; Program::PLACES],
     issued: usize,

@@ -1,3 +1,2 @@
 pub mod State
-pub mod Packed
 pub mod Finished

@@ -1,22 +1,12 @@
--- A state as the theory speaks of it: a list for each thing that it holds.
-use Rattle.std.specs.Prelude.{List, ℕ}
+-- A state as the theory speaks of it: the machine itself, with a list for each of its arrays.
+use Rattle.std.specs.Prelude.{List, ℕ, Option}
+use Rattle.machine_state.specs.declared.state.Machine.{Machine}
 
-pub record State : Type 0 where
-  pub registers : List ℕ
-  pub memory : List ℕ
-  pub kept : List ℕ  -- by an exchange's read, aside
-  pub at : List ℕ  -- the instruction
-  pub phase : List ℕ  -- how many of its program steps are taken
-  pub locations : List ℕ  -- the log of issued writes
-  pub values : List ℕ
-  pub issued : List ℕ  -- how many writes are issued
-  pub drained : List ℕ
-  pub holder : ℕ  -- of the lock
-  pub own : ℕ  -- how many reads own buffers served
-  pub free : List ℕ  -- what no step looks at
+abbrev pub State : Type 0
+State = Machine
 
-abbrev pub parts : (registers memory kept at phase locations values issued drained : List ℕ) (holder own : ℕ) (free : List ℕ) → State
-parts registers memory kept at phase locations values issued drained holder own free = record {
+abbrev pub parts : (registers memory kept at phase locations values issued drained : List ℕ) (holder : Option ℕ) (own : ℕ) → State
+parts registers memory kept at phase locations values issued drained holder own = record {
   registers = registers;
   memory = memory;
   kept = kept;
@@ -28,5 +18,4 @@ parts registers memory kept at phase locations values issued drained holder own 
   drained = drained;
   holder = holder;
   own = own;
-  free = free;
 }

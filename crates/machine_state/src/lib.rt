@@ -1,4 +1,4 @@
-// A program and a state in few arrays, and whether a run is finished.
+// The state of a machine, what a program holds, and whether a run is finished.
 #![tactic(auto)]
 
 pub mod finished;

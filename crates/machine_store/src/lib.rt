@@ -1,97 +1,101 @@
-// Single stores. `kind` is that of the instruction that processor p stands at, c the place of its register among the cells.
+// Single stores. i is the instruction that its processor stands at, e the event.
 #![tactic(auto)]
 
-ghost use Rattle.std.specs.Prelude.{◌≡◌, ◌<◌, set};
-ghost use Rattle.machine_state.specs.Packed.{memory_at};
-ghost use Rattle.machine_store.specs.Stores.{received, counted, exchanged, next_place, one_more_issued, one_more_drained, advanced, Issuable, MayCount, Drainable, Onward};
+ghost use Rattle.std.specs.Prelude.{◌≡◌, ◌<◌};
+ghost use Rattle.model.specs.Code.{register_of};
+ghost use Rattle.machine_store.specs.Stores.{after_drain, assigned_in, received_in, counted_in, exchanged_in, issued_in, advanced_in, Own, Issuable, MayCount, Drainable, Onward};
 
 use machine_rules::program;
 use machine_state::state::Machine;
-use model::kind::{Role, role_of};
+use model::kind::Role;
 use model::origin::Origin;
+use model::record::Record;
 use model::table::{Cells, Program};
 
-// A load's read goes into the register, an exchange's is kept aside.
-pub fn receive(cells: &mut [u32; Machine::CELLS], kind: u8, p: usize, c: usize, v: u32)
-    requires { (p < Program.PROCESSORS) × (c < Cells.ALL_REGISTERS) }
-    ensures { cells.new ≡ received cells.old kind p c v }
+// The register of an instruction, among all registers.
+pub fn register(i: Record) -> usize
+    requires { Own i }
+    ensures { result ≡ register_of i }
 {
-    match role_of(kind) {
-        Role::Load => cells[c] = v,
-        _ => cells[Machine::KEPT + p] = v,
+    Cells::REGISTERS * (i.processor as usize) + (i.register as usize)
+}
+
+// A load's read goes into the register, an exchange's is kept aside.
+pub fn receive(m: &mut Machine, i: Record, v: u32)
+    requires { Own i }
+    ensures { m.new ≡ received_in m.old i v }
+{
+    match Role::from(i.kind) {
+        Role::Load => m.registers[register(i)] = v,
+        _ => m.kept[i.processor as usize] = v,
     }
 }
 
 // A read that the own buffer served is counted.
-pub fn count(marks: &mut [usize; Machine::MARKS], from: Origin)
-    requires { MayCount marks.old }
-    ensures { marks.new ≡ counted marks.old from }
+pub fn count(m: &mut Machine, from: Origin)
+    requires { MayCount m.old }
+    ensures { m.new ≡ counted_in m.old from }
 {
     match from {
-        Origin::Waiting(position) => marks[Machine::OWN] = marks[Machine::OWN] + 1,
+        Origin::Waiting(_) => m.own += 1,
         Origin::Memory => {}
     }
 }
 
-// With an exchange's write the register takes the kept value.
-pub fn exchange(cells: &mut [u32; Machine::CELLS], kind: u8, p: usize, c: usize)
-    requires { (p < Program.PROCESSORS) × (c < Cells.ALL_REGISTERS) }
-    ensures { cells.new ≡ exchanged cells.old kind p c }
+// With an exchange's write register c, among all registers, takes the kept value.
+pub fn exchange(m: &mut Machine, i: Record, c: usize)
+    requires { (i.processor < Program.PROCESSORS) × (c < Cells.ALL_REGISTERS) }
+    ensures { m.new ≡ exchanged_in m.old i c }
 {
-    match role_of(kind) {
-        Role::Exchange | Role::ExchangeAdd => cells[c] = cells[Machine::KEPT + p],
+    match Role::from(i.kind) {
+        Role::Exchange | Role::ExchangeAdd => {
+            m.registers[c] = m.kept[i.processor as usize];
+        }
         _ => {}
     }
 }
 
-// A write joins the newest end of the own buffer.
-pub fn issue<'a>(
-    locations: &'a mut [u8; Program::PLACES],
-    values: &'a mut [u32; Program::PLACES],
-    marks: &'a mut [usize; Machine::MARKS],
-    p: usize,
-    x: u8,
-    v: u32,
-)
-    requires { Issuable marks.old p }
-    ensures { (locations.new ≡ set locations.old (next_place marks.old p) x)
-        × (values.new ≡ set values.old (next_place marks.old p) v)
-        × (marks.new ≡ one_more_issued marks.old p) }
+// A local step sets the register.
+pub fn assign(m: &mut Machine, i: Record)
+    requires { Own i }
+    ensures { m.new ≡ assigned_in m.old i i.value }
 {
-    let n = marks[Machine::ISSUED + p];
+    m.registers[register(i)] = i.value;
+}
+
+// A write joins the newest end of the own buffer.
+pub fn issue(m: &mut Machine, i: Record, e: Record)
+    requires { Issuable m.old i.processor }
+    ensures { m.new ≡ issued_in m.old i e }
+{
+    let p = i.processor as usize;
+    let n = m.issued[p];
     let place = Program::INSTRUCTIONS * p + n;
-    locations[place] = x;
-    values[place] = v;
-    marks[Machine::ISSUED + p] = n + 1;
+    m.locations[place] = e.location;
+    m.values[place] = e.value;
+    m.issued[p] = n + 1;
 }
 
 // The oldest waiting write leaves the buffer, and memory takes it.
-pub fn drain<'a>(
-    cells: &'a mut [u32; Machine::CELLS],
-    marks: &'a mut [usize; Machine::MARKS],
-    p: usize,
-    x: u8,
-    v: u32,
-)
-    requires { Drainable marks.old p x }
-    ensures { (cells.new ≡ set cells.old (memory_at x) v)
-        × (marks.new ≡ one_more_drained marks.old p) }
+pub fn drain(m: &mut Machine, e: Record)
+    requires { Drainable m.old e.processor e.location }
+    ensures { m.new ≡ after_drain m.old e }
 {
-    let cell = Machine::MEMORY + (x as usize);
-    cells[cell] = v;
-    marks[Machine::DRAINED + p] = marks[Machine::DRAINED + p] + 1;
+    m.memory[e.location as usize] = e.value;
+    m.drained[e.processor as usize] += 1;
 }
 
 // Past one program step: the next one of the instruction or, after its last, the next instruction.
-pub fn advance(marks: &mut [usize; Machine::MARKS], kind: u8, p: usize)
-    requires { Onward marks.old kind p }
-    ensures { marks.new ≡ advanced marks.old kind p }
+pub fn advance(m: &mut Machine, i: Record)
+    requires { Onward m.old i }
+    ensures { m.new ≡ advanced_in m.old i }
 {
-    let taken = marks[Machine::PHASE + p] + 1;
-    if taken == program::step_count(kind) {
-        marks[Machine::AT + p] = marks[Machine::AT + p] + 1;
-        marks[Machine::PHASE + p] = 0;
+    let p = i.processor as usize;
+    let taken = m.phase[p] + 1;
+    if taken == program::step_count(i.kind) {
+        m.at[p] += 1;
+        m.phase[p] = 0;
     } else {
-        marks[Machine::PHASE + p] = taken;
+        m.phase[p] = taken;
     }
 }

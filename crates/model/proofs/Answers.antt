@@ -8,10 +8,9 @@ use Rattle.model.specs.declared.answer.Refusal.{Refusal}
 use Rattle.model.specs.declared.answer.Refusal.TheVariants.{TableLength, TableKind, TableRange, TableUnused, InitialLate, CellTwice, Seventeenth, TraceLength, StepKind, StepField, StepRule, Unfinished, RoomTooSmall, TextGrammar, TextLimit, TextConstant}
 use Rattle.model.specs.declared.answer.Condition.{Condition}
 use Rattle.model.specs.declared.answer.Condition.TheVariants.{AnotherKind, NothingWaits, LockHeld, BufferNotEmpty, NotRight}
-use Rattle.model.specs.declared.answer.Answer.{Answer}
-use Rattle.model.specs.declared.answer.Answer.TheVariants.{Done, Refused}
 use Rattle.model.specs.Rules.{condition_number}
-use Rattle.model.specs.Reply.{Reply, number_of, reply_of}
+use Rattle.std.specs.Prelude.{Ok, Err}
+use Rattle.model.specs.Reply.{Reply, Answer, number_of, refusal_at, reply_of}
 
 -- the refusal of a number; there is none of number 0, nor of 11
 refusal_of : ℕ → Refusal
@@ -56,16 +55,16 @@ not-zero r h =
     omega arith
 
 pub one_answer : (a b : Answer) (room rest : List ℕ) → reply_of a room ≡ reply_of b rest → a ≡ b
-one_answer (Done i) (Done j) room rest h = ap Done (ap (λ (r : Reply). r.place) h)
-one_answer (Done i) (Refused w j) room rest h = absurd (not-zero w (sym (ap (λ (r : Reply). r.number) h)))
-one_answer (Refused v i) (Done j) room rest h = absurd (not-zero v (ap (λ (r : Reply). r.number) h))
-one_answer (Refused v i) (Refused w j) room rest h =
-    let same : v ≡ w = sym (refusal-back v) ∙ ap (λ (r : Reply). refusal_of r.number) h ∙ refusal-back w in
-    λ k. Refused (same k) (h k).place
+one_answer (Ok i) (Ok j) room rest h = ap Ok (ap (λ (r : Reply). r.place) h)
+one_answer (Ok i) (Err q) room rest h = absurd (not-zero q.why (sym (ap (λ (r : Reply). r.number) h)))
+one_answer (Err p) (Ok j) room rest h = absurd (not-zero p.why (ap (λ (r : Reply). r.number) h))
+one_answer (Err p) (Err q) room rest h =
+    let same : p.why ≡ q.why = sym (refusal-back p.why) ∙ ap (λ (r : Reply). refusal_of r.number) h ∙ refusal-back q.why in
+    λ k. Err (refusal_at (same k) (h k).place)
 
 pub one-outcome : (q : Reply) (a b : Answer) (room rest : List ℕ) → reply_of a room ≡ q → reply_of b rest ≡ q → (a ≡ b) × (room ≡ rest)
 one-outcome q a b room rest g h = let same = g ∙ sym h in (one_answer a b room rest same, sym (room_of a room) ∙ ap (λ (r : Reply). r.room) same ∙ room_of b rest)
   where
     room_of : (a : Answer) (room : List ℕ) → (reply_of a room).room ≡ room
-    room_of (Done i) room = refl
-    room_of (Refused w i) room = refl
+    room_of (Ok i) room = refl
+    room_of (Err r) room = refl

@@ -46,3 +46,4 @@ pub mod Verdicts
 pub mod Rows
 pub mod Roles
 pub mod Columns
+pub mod Raised

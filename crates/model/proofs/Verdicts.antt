@@ -4,18 +4,18 @@ use mathlib.Core.Bool.{Bool, true, false, cond}
 use mathlib.Core.Option.{Option, none, some}
 use mathlib.Core.List.{List, [], ◌∷◌, ◌++◌}
 use Prim.Native.Nat.{ℕ}
+use Rattle.std.specs.Prelude.{Ok, Err}
 use Rattle.model.specs.declared.answer.Refusal.{Refusal}
-use Rattle.model.specs.declared.answer.Verdict.{Verdict}
-use Rattle.model.specs.declared.answer.Verdict.TheVariants.{Passed, Refused}
-use Rattle.model.specs.Code.{tested_of, Gives}
+use Rattle.model.specs.declared.answer.Refused.{Refused}
+use Rattle.model.specs.Code.{Verdict, tested_of, Gives}
 use Rattle.model.specs.Lists.{All}
-use Rattle.model.specs.Reply.{number_of}
+use Rattle.model.specs.Reply.{number_of, refusal_at}
 use Rattle.model.specs.Tests.{Test, test, first, Tested, passed, refused, and_then, unless}
 use Rattle.model.proofs.Tests.{passed-refused, none-some, unless-passed}
 
 -- ---- a test t, which a call answered by f
 
-pub met : (why : Refusal) (i : ℕ) (f t : Bool) (ts : List Test) → f ≡ t → f ≡ true → Gives (Refused why i) (test (number_of why) t ∷ ts) i
+pub met : (why : Refusal) (i : ℕ) (f t : Bool) (ts : List Test) → f ≡ t → f ≡ true → Gives (Err (refusal_at why i)) (test (number_of why) t ∷ ts) i
 unfolding first unless
 met why i f t ts e h = record { says = rw (sym e ∙ h) }
 
@@ -23,7 +23,7 @@ pub past : (v : Verdict) (n i : ℕ) (f t : Bool) (ts : List Test) → f ≡ t �
 unfolding first
 past v n i f t ts e h g = record { says = rw (sym e ∙ h) g.says }
 
-pub none_left : (i : ℕ) → Gives Passed [] i
+pub none_left : (i : ℕ) → Gives (Ok tt) [] i
 unfolding first unless
 none_left i = record { says = refl }
 
@@ -39,10 +39,10 @@ none-met (t ∷ ts) h = go t.condition refl h (none-met ts)
     go true e h ih = none-some (sym h)
     go false e h ih = (e, ih h)
 
-pub no_number : (v : Verdict) (ts : List Test) (i : ℕ) → Gives v ts i → v ≡ Passed → first ts ≡ none
+pub no_number : (v : Verdict) (ts : List Test) (i : ℕ) → Gives v ts i → v ≡ Ok tt → first ts ≡ none
 no_number v ts i g e = (unless-passed (first ts) i (passed tt) tt (sym g.says ∙ ap (λ (w : Verdict). tested_of {A = Unit {0}} w tt) e)).0
 
-pub gives_none : (v : Verdict) (ts : List Test) (i : ℕ) → Gives v ts i → v ≡ Passed → All (λ t. t.condition ≡ false) ts
+pub gives_none : (v : Verdict) (ts : List Test) (i : ℕ) → Gives v ts i → v ≡ Ok tt → All (λ t. t.condition ≡ false) ts
 gives_none v ts i g e = none-met ts (no_number v ts i g e)
 
 -- ---- some tests, and then others
@@ -66,15 +66,15 @@ first-keeps (t ∷ ts) us n h = go t.condition h (first-keeps ts us n)
     go false h ih = ih h
 
 -- the first ones passed
-pub then-others : (v w : Verdict) (ts us : List Test) (i : ℕ) → Gives v ts i → v ≡ Passed → Gives w us i → Gives w (ts ++ us) i
+pub then-others : (v w : Verdict) (ts us : List Test) (i : ℕ) → Gives v ts i → v ≡ Ok tt → Gives w us i → Gives w (ts ++ us) i
 then-others v w ts us i g e h = record { says = rw (first-append ts us (no_number v ts i g e)) h.says }
 
 -- or not, and the others do not matter
-pub stopped : (v : Verdict) (ts us : List Test) (why : Refusal) (place i : ℕ) → Gives v ts i → v ≡ Refused why place → Gives (Refused why place) (ts ++ us) i
+pub stopped : (v : Verdict) (ts us : List Test) (r : Refused) (i : ℕ) → Gives v ts i → v ≡ Err r → Gives (Err r) (ts ++ us) i
 unfolding unless
-stopped v ts us why place i g e = record { says = go (first ts) refl (sym (ap (λ (w : Verdict). tested_of {A = Unit {0}} w tt) e) ∙ g.says) }
+stopped v ts us r i g e = record { says = go (first ts) refl (sym (ap (λ (w : Verdict). tested_of {A = Unit {0}} w tt) e) ∙ g.says) }
   where
-    go : (o : Option ℕ) → first ts ≡ o → refused (number_of why) place ≡ unless {A = Unit {0}} o i (passed tt) → refused (number_of why) place ≡ unless {A = Unit {0}} (first (ts ++ us)) i (passed tt)
+    go : (o : Option ℕ) → first ts ≡ o → refused (number_of r.why) r.place ≡ unless {A = Unit {0}} o i (passed tt) → refused (number_of r.why) r.place ≡ unless {A = Unit {0}} (first (ts ++ us)) i (passed tt)
     go none q h = passed-refused (sym h)
     go (some n) q h = rw (first-keeps ts us n q) h
 
@@ -93,5 +93,5 @@ unfolding and_then
 gives-any {A} v ts i a g = go v ∙ sym (gives_then v ts i (passed a) g)
   where
     go : (v : Verdict) → tested_of v a ≡ and_then (tested_of {A = Unit {0}} v tt) (λ u. passed a)
-    go Passed = refl
-    go (Refused why place) = refl
+    go (Ok u) = refl
+    go (Err r) = refl

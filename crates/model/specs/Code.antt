@@ -1,17 +1,14 @@
 -- What the code's types stand for: verdicts, attempted steps, programs in columns, cells. Only contracts inside the repository speak of them.
-use Rattle.std.specs.Prelude.{◌≡◌, Bool, true, false, List, [], ◌∷◌, ◌++◌, map, ℕ, zero, suc, ◌+◌, ◌*◌, ◌%◌, ◌≤◌, ◌<◌, length, get_or}
+use Rattle.std.specs.Prelude.{◌≡◌, Bool, true, false, List, [], ◌∷◌, ◌++◌, map, ℕ, zero, suc, ◌+◌, ◌*◌, ◌%◌, ◌≤◌, ◌<◌, length, get_or, Result, Ok, Err}
 use Rattle.std.proofs.Math.Option.{Option, none, some}
 use Rattle.std.proofs.Math.Seq.{slice}
 use Rattle.model.specs.declared.record.Record.{Record}
 use Rattle.model.specs.declared.kind.Role.{Role}
 use Rattle.model.specs.declared.kind.Role.TheVariants.{Unknown, InitialMemory, InitialRegister, StoreConstant, StoreRegister, Load, SetRegister, Fence, Exchange, ExchangeAdd}
 use Rattle.model.specs.declared.answer.Condition.{Condition}
-use Rattle.model.specs.declared.answer.Refusal.TheVariants.{StepRule}
-use Rattle.model.specs.declared.answer.Attempt.{Attempt}
-use Rattle.model.specs.declared.answer.Attempt.TheVariants.{Taken, Turned}
-use Rattle.model.specs.declared.answer.Verdict.{Verdict}
-use Rattle.model.specs.declared.answer.Verdict.TheVariants.{Passed, Refused}
+use Rattle.model.specs.declared.answer.Refused.{Refused}
 use Rattle.model.specs.declared.table.Cells.{Cells}
+use Rattle.model.specs.declared.table.Program.{Program}
 use Rattle.model.specs.Sizes as sizes
 use Rattle.model.specs.Sizes.{processors, registers_each, locations, instructions_each}
 use Rattle.model.specs.Program.{ProgramStep, steps_of, store_constant, store_register, load, set_register, mfence, exchange, locked_exchange, exchange_add, locked_exchange_add}
@@ -19,15 +16,19 @@ use Rattle.model.specs.Kinds.{Entry, initial_memory, initial_register, instructi
 use Rattle.model.specs.Reading.{is_instruction}
 use Rattle.model.specs.Machine.{Processor, Machine, free}
 use Rattle.model.specs.Reply.{number_of}
+use Rattle.model.specs.Rules.{condition_number}
 use Rattle.model.specs.Step.{Stepped, took, turned}
 use Rattle.model.specs.Tests.{Test, first, Tested, passed, refused, unless}
 
 -- ---- verdicts
 
--- a verdict, with what there is to go on with if it passed
+abbrev pub Verdict : Type 0
+Verdict = Result (Unit {0}) Refused
+
+-- with what there is to go on with if it passed
 abbrev pub tested_of : {A : Type 0} → Verdict → A → Tested A
-tested_of Passed a = passed a
-tested_of (Refused why place) a = refused (number_of why) place
+tested_of (Ok u) a = passed a
+tested_of (Err r) a = refused (number_of r.why) r.place
 
 -- v is what these tests give at place i
 pub record Gives (v : Verdict) (tests : List Test) (i : ℕ) : Type 0 where
@@ -35,19 +36,22 @@ pub record Gives (v : Verdict) (tests : List Test) (i : ℕ) : Type 0 where
 
 -- ---- attempted steps
 
+abbrev pub Attempt : Type 0
+Attempt = Result (Unit {0}) Condition
+
 abbrev pub taken : Attempt → Bool
-taken Taken = true
-taken (Turned why) = false
+taken (Ok u) = true
+taken (Err c) = false
 
 -- a step is turned down for a condition of its rule or, with none, taken
 abbrev pub judged : Option Condition → Attempt
-judged none = Taken
-judged (some c) = Turned (StepRule c)
+judged none = Ok tt
+judged (some c) = Err c
 
 -- an attempt, with the machine that there is to go on with if it is taken
 abbrev pub stepped_of : Attempt → Machine → Stepped
-stepped_of Taken t = took t
-stepped_of (Turned why) t = turned (number_of why)
+stepped_of (Ok u) t = took t
+stepped_of (Err c) t = turned (condition_number c)
 
 -- ---- roles
 
@@ -124,12 +128,8 @@ four f = f 0 ∷ f 1 ∷ f 2 ∷ f 3 ∷ []
 -- ---- programs
 
 -- in columns, one of each field of the instructions' records; and how many instructions each processor has
-pub record Columns : Type 0 where
-  pub kinds : List ℕ
-  pub registers : List ℕ
-  pub locations : List ℕ
-  pub values : List ℕ
-  pub counts : List ℕ
+abbrev pub Columns : Type 0
+Columns = Program
 
 abbrev pub columns : (kinds registers locations values counts : List ℕ) → Columns
 columns kinds registers locations values counts = record { kinds = kinds; registers = registers; locations = locations; values = values; counts = counts }

@@ -1,9 +1,8 @@
 -- All that a caller gets: number, place, and the lent room afterwards (document 01, "Numbers the caller gets").
-use Rattle.std.specs.Prelude.{List, [], ◌∷◌, ◌++◌, ℕ}
+use Rattle.std.specs.Prelude.{List, [], ◌∷◌, ◌++◌, ℕ, Result, Ok, Err}
 use Rattle.model.specs.declared.answer.Refusal.{Refusal}
 use Rattle.model.specs.declared.answer.Refusal.TheVariants.{TableLength, TableKind, TableRange, TableUnused, InitialLate, CellTwice, Seventeenth, TraceLength, StepKind, StepField, StepRule, Unfinished, RoomTooSmall, TextGrammar, TextLimit, TextConstant}
-use Rattle.model.specs.declared.answer.Answer.{Answer}
-use Rattle.model.specs.declared.answer.Answer.TheVariants.{Done, Refused}
+use Rattle.model.specs.declared.answer.Refused.{Refused}
 use Rattle.model.specs.Machine.{Machine, Processor}
 use Rattle.model.specs.Rules.{condition_number}
 
@@ -52,6 +51,13 @@ number_of TextGrammar = 19
 number_of TextLimit = 20
 number_of TextConstant = 21
 
+abbrev pub refusal_at : Refusal → ℕ → Refused
+refusal_at why place = record { why = why; place = place }
+
+-- a call's answer: the place where it is done, or a refusal
+abbrev pub Answer : Type 0
+Answer = Result ℕ Refused
+
 abbrev pub reply_of : Answer → List ℕ → Reply
-reply_of (Done place) room = done place room
-reply_of (Refused why place) room = refuse (number_of why) place room
+reply_of (Ok place) room = done place room
+reply_of (Err r) room = refuse (number_of r.why) r.place room

@@ -1,4 +1,5 @@
-use crate::table::Cells;
+ghost use Rattle.std.specs.Prelude.{◌≡◌};
+ghost use Rattle.model.specs.Reply.{refusal_at};
 
 // Why a step is turned down, in the words of document 02, order 1. specs/Rules.antt says when each is met, for which steps, and gives its number.
 #[derive(Clone, Copy)]
@@ -14,7 +15,7 @@ pub enum Condition {
     NotRight,
 }
 
-// The answer to a call. specs/Reply.antt gives document 01's number and place for each case.
+// Why a call is refused. specs/Reply.antt gives document 01's number for each case.
 #[derive(Clone, Copy)]
 pub enum Refusal {
     TableLength,
@@ -38,28 +39,29 @@ pub enum Refusal {
     TextConstant,
 }
 
-// Done: the steps in the trace when checking, k when finishing, the records of a litmus text. Refused: why, and the place.
-#[derive(Clone, Copy)]
-pub enum Answer {
-    Done(usize),
-    Refused(Refusal, usize),
+impl Refusal {
+    pub fn at(self, place: usize) -> Refused
+        ensures { result ≡ refusal_at self place }
+    {
+        Refused {
+            why: self,
+            place: place,
+        }
+    }
 }
 
-impl Answer {
-    // In the result of a check: the cells of the outcome, and how many reads own buffers served.
-    pub const WORDS: usize = Cells::ALL + 1;
+// Why, and the place.
+#[derive(Clone, Copy)]
+pub struct Refused {
+    pub why: Refusal,
+    pub place: usize,
 }
 
-// What is tested may go on, or is refused: why, and the place.
-#[derive(Clone, Copy)]
-pub enum Verdict {
-    Passed,
-    Refused(Refusal, usize),
-}
+// The steps in the trace when checking, k when finishing, the records of a litmus text; or the refusal.
+pub type Answer = Result<usize, Refused>;
+
+// What is tested may go on, or is refused.
+pub type Verdict = Result<(), Refused>;
 
 // A step is taken, or turned down: why.
-#[derive(Clone, Copy)]
-pub enum Attempt {
-    Taken,
-    Turned(Refusal),
-}
+pub type Attempt = Result<(), Condition>;

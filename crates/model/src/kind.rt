@@ -25,21 +25,25 @@ impl Role {
     pub const PHASES: usize = 4;
 }
 
-pub fn role_of(kind: u8) -> Role
-    ensures { result ≡ role_of kind }
-{
-    match kind {
-        1 => Role::InitialMemory,
-        2 => Role::InitialRegister,
-        3 => Role::StoreConstant,
-        4 => Role::StoreRegister,
-        5 => Role::Load,
-        6 => Role::SetRegister,
-        7 => Role::Fence,
-        8 => Role::Exchange,
-        9 => Role::Exchange,
-        10 => Role::ExchangeAdd,
-        11 => Role::ExchangeAdd,
-        _ => Role::Unknown,
+// By the number of a kind. Total, since what is no kind has a role too (`role_of`): that of the record that stands past a program's end.
+impl From<u8> for Role {
+    ghost from_gives = { λ kind role. role ≡ role_of kind };
+
+    #[tactic(auto, unfolding(crate::specs::Code::role_of))]
+    fn from(kind: u8) -> Role {
+        match kind {
+            1 => Role::InitialMemory,
+            2 => Role::InitialRegister,
+            3 => Role::StoreConstant,
+            4 => Role::StoreRegister,
+            5 => Role::Load,
+            6 => Role::SetRegister,
+            7 => Role::Fence,
+            8 => Role::Exchange,
+            9 => Role::Exchange,
+            10 => Role::ExchangeAdd,
+            11 => Role::ExchangeAdd,
+            _ => Role::Unknown,
+        }
     }
 }

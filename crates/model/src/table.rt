@@ -3,16 +3,18 @@ ghost use Rattle.std.specs.Prelude.{◌≡◌, [], ◌∷◌};
 ghost use Rattle.model.specs.Sizes.{processors, registers_each, locations, instructions_each, outcome_cells, result_words, record_size, longest_trace};
 ghost use Rattle.model.specs.Kinds.{table_rows};
 
-use crate::answer::Answer;
 use crate::kind::Role;
 use crate::record::Record;
 
-// The instructions as their table records give them, those of processor p at INSTRUCTIONS * p and on: in `codes` all kinds, then all registers, all
-// locations, and how many instructions each processor has; their values in `constants`.
+// The instructions as their table records give them, those of processor p at INSTRUCTIONS * p and on, and how many each processor has.
+// Stays in columns: the definitions and theorems of specs/Code (`Columns`, `Fits`, `instruction_at`) speak of a list for each field.
 #[derive(Drop)]
 pub struct Program {
-    pub codes: [u8; Program::CODES],
-    pub constants: [u32; Program::PLACES],
+    pub kinds: [u8; Program::PLACES],
+    pub registers: [u8; Program::PLACES],
+    pub locations: [u8; Program::PLACES],
+    pub counts: [u8; Program::PROCESSORS],
+    pub values: [u32; Program::PLACES],
 }
 
 impl Program {
@@ -22,15 +24,6 @@ impl Program {
     pub const INSTRUCTIONS: usize = 16;
 
     pub const PLACES: usize = Self::PROCESSORS * Self::INSTRUCTIONS;
-
-    // Where in `codes` the registers, the locations and the counts begin, and how long it is.
-    pub const OPERANDS: usize = Self::PLACES;
-
-    pub const TARGETS: usize = Self::OPERANDS + Self::PLACES;
-
-    pub const COUNTS: usize = Self::TARGETS + Self::PLACES;
-
-    pub const CODES: usize = Self::COUNTS + Self::PROCESSORS;
 
     // Stands where no value has been entered or issued; nothing reads it. It is not zero since LLVM zeroes what lies side by side, when it is more than 256 bytes,
     // by a call of memset, which the library would need of the program that it is linked to.
@@ -57,6 +50,9 @@ impl Cells {
 
     // In an outcome.
     pub const ALL: usize = Self::ALL_REGISTERS + Self::LOCATIONS;
+
+    // In the result of a check: the outcome, and how many reads own buffers served.
+    pub const RESULT: usize = Self::ALL + 1;
 }
 
 // The limits of the code are those of the definitions.
@@ -69,7 +65,7 @@ pub fn limits() -> [usize; 9]
         Cells::LOCATIONS,
         Program::INSTRUCTIONS,
         Cells::ALL,
-        Answer::WORDS,
+        Cells::RESULT,
         Record::BYTES,
         Program::LONGEST,
         Role::KINDS,

@@ -1,10 +1,10 @@
 // Cases, answered one after the other on standard output.
-ghost use Rattle.std.specs.Prelude.{◌≡◌, ◌*◌, ◌≤◌, length};
+ghost use Rattle.case.specs.Parts.{Fits};
 
 use crate::answer::answer;
-use crate::input::{read_head, read_part, zero_words, zeros};
+use crate::input::{Parts, WORDS, read_case};
 use ambercell::CAnswer;
-use case::head::MOST;
+use case::head::{Head, MOST};
 use case::words::{LONG, put_long};
 use record::bytes::WORD;
 use std::io::{Read, Write};
@@ -17,78 +17,41 @@ fn say_answer<O: Write>(output: &mut O, answer: CAnswer, room: &[u8]) {
     let _ = output.write_all(room);
 }
 
-fn answer_aloud<O: Write>(
-    output: &mut O,
-    call: u32,
-    table: &[u8],
-    trace: &[u8],
-    room: &mut [u8],
-    words: &mut [u32],
-)
-    requires { length words.old * WORD ≤ length room.old }
+fn answer_aloud<O: Write>(output: &mut O, head: Head, parts: &mut Parts)
+    requires { Fits MOST head }
 {
-    let said = answer(call, table, trace, room, words);
-    say_answer(output, said, room);
-}
-
-// The next case, and whether there is one.
-fn answer_next<I: Read, O: Write, E: Write>(
-    input: &mut I,
-    output: &mut O,
-    errors: &mut E,
-    table: &mut [u8],
-    trace: &mut [u8],
-    room: &mut [u8],
-    words: &mut [u32],
-) -> bool
-    requires table_len { length table.old ≡ MOST }
-    requires trace_len { length trace.old ≡ MOST }
-    requires room_len { length room.old ≡ MOST }
-    requires words_len { length words.old * WORD ≡ MOST }
-{
-    let head = read_head(input, errors);
-    if !head.whole {
-        return false;
-    }
-    let t = head.table;
-    if !read_part(input, errors, table, t) {
-        return false;
-    }
-    let e = head.trace;
-    if !read_part(input, errors, trace, e) {
-        return false;
-    }
-    let r = head.room;
-    if !read_part(input, errors, room, r) {
-        return false;
-    }
-    let w = r / WORD;
-    answer_aloud(
-        output,
-        head.call,
-        &table[..t],
-        &trace[..e],
-        &mut room[..r],
-        &mut words[..w],
+    let table = &parts.table[..];
+    let trace = &parts.trace[..];
+    let room = &mut parts.room[..];
+    let words = &mut parts.words[..];
+    let said = answer(
+        u32::from(head.call),
+        &table[..head.table],
+        &trace[..head.trace],
+        &mut room[..head.room],
+        &mut words[..head.room / WORD],
     );
-    true
+    say_answer(output, said, &room[..head.room]);
 }
 
-// More than anybody sends.
+// More than anybody sends. Stays a count: a loop without an end needs a handle that HANDLES does not allow.
 const CASES: u64 = 1000000000000;
 
 pub fn answer_all<I: Read, O: Write, E: Write>(input: &mut I, output: &mut O, errors: &mut E) {
-    let mut table = zeros();
-    let mut trace = zeros();
-    let mut room = zeros();
-    let mut words = zero_words();
-    let mut i: u64 = 0;
-    while i < CASES {
-        if !answer_next(
-            input, output, errors, &mut table, &mut trace, &mut room, &mut words,
-        ) {
-            return;
+    let mut parts = Parts {
+        table: [0; MOST],
+        trace: [0; MOST],
+        room: [0; MOST],
+        words: [0; WORDS],
+    };
+    for _ in 0..CASES {
+        match read_case(input, &mut parts) {
+            Ok(Some(head)) => answer_aloud(output, head, &mut parts),
+            Ok(None) => return,
+            Err(broken) => {
+                let _ = writeln!(errors, "cases: {broken}");
+                return;
+            }
         }
-        i += 1;
     }
 }

@@ -1,96 +1,99 @@
 // What is read of a case, and where it is put.
-ghost use Rattle.std.specs.Prelude.{◌≡◌, ◌+◌, ◌≤◌, length, IfOk};
+ghost use Rattle.std.specs.Prelude.{◌≡◌, ◌≤◌, length, IfOk, IfSome, Some};
 ghost use Rattle.case.specs.Parts.{Fits};
+ghost use Rattle.program_cases.specs.declared.input.Broken.TheVariants.{NoCase};
+ghost use Rattle.program_cases.specs.Complaints.{said};
 
+use case::call::NoCase;
 use case::head::{Head, MOST, head_of};
+use program_files::read::fill;
 use record::bytes::WORD;
-use std::io;
-use std::io::{Read, Write};
-
-pub fn zeros() -> [u8; MOST]
-    ensures { MOST ≡ length result }
-{
-    [0; MOST]
-}
+use std::error::Error;
+use std::fmt;
+use std::io::Read;
 
 // The words of a room.
-const WORDS: usize = MOST / WORD;
+pub const WORDS: usize = MOST / WORD;
 
-pub fn zero_words() -> [u32; WORDS]
-    ensures { WORDS ≡ length result }
-{
-    [0; WORDS]
+// The parts of a case, and the words in which a check has its room.
+#[derive(Drop)]
+pub struct Parts {
+    pub table: [u8; MOST],
+    pub trace: [u8; MOST],
+    pub room: [u8; MOST],
+    pub words: [u32; WORDS],
 }
 
-// What ends the answers before the input's end.
-pub fn complain<E: Write>(errors: &mut E, text: &[u8]) {
-    let _ = errors.write_all(text);
+// Why the answers end before the input does.
+#[derive(Clone, Copy, Debug, PartialEq, Eq)]
+pub enum Broken {
+    Cut,
+    NoCase(NoCase),
 }
 
-pub fn complain_cut<E: Write>(errors: &mut E) {
-    complain(errors, b"cases: the input ends inside a case\n");
+impl From<NoCase> for Broken {
+    ghost from_gives = { λ none broken. broken ≡ NoCase none };
+
+    fn from(none: NoCase) -> Self {
+        Self::NoCase(none)
+    }
 }
 
-fn read_on<I: Read>(input: &mut I, bytes: &mut [u8], done: usize) -> io::Result<usize>
-    requires { done ≤ length bytes.old }
-    ensures { IfOk result (λ more. done + more ≤ length bytes.old) }
-{
-    input.read(&mut bytes[done..])
+impl fmt::Display for Broken {
+    ghost output = { λ broken. Some (said broken) };
+
+    fn fmt<W: fmt::Write>(&self, f: &mut fmt::Formatter<W>) -> fmt::Result {
+        match self {
+            Broken::Cut => f.write_str("the input ends inside a case"),
+            Broken::NoCase(none) => none.fmt(f),
+        }
+    }
 }
 
-// The next bytes of the input, and how many came before its end: fewer than there is room for only there, or where a read fails.
+impl Error for Broken {}
+
+// How many bytes of the input came before its end, or before a read failed.
 fn read_full<I: Read>(input: &mut I, bytes: &mut [u8]) -> usize
     ensures { result ≤ length bytes.old }
 {
-    let mut done: usize = 0;
-    while done < bytes.len() {
-        let more = match read_on(input, bytes, done) {
-            Ok(more) => more,
-            Err(_) => return done,
-        };
-        if more == 0 {
-            return done;
-        }
-        done += more;
+    match fill(input, bytes) {
+        Ok(n) => n,
+        Err(failed) => failed.came,
     }
-    done
 }
 
-// Reads the next n bytes of the input to the start of a part, and answers whether they came.
-pub fn read_part<I: Read, E: Write>(
-    input: &mut I,
-    errors: &mut E,
-    part: &mut [u8],
-    n: usize,
-) -> bool
-    requires { n ≤ length part.old }
-{
-    let came = read_full(input, &mut part[..n]);
-    if came < n {
-        complain_cut(errors);
+// Reads the next bytes of the input to a part.
+pub fn read_part<I: Read>(input: &mut I, part: &mut [u8]) -> Result<(), Broken> {
+    if read_full(input, part) < part.len() {
+        return Err(Broken::Cut);
     }
-    came == n
+    Ok(())
 }
 
-// The head of the next case or, where there is none that can be answered, of none.
-pub fn read_head<I: Read, E: Write>(input: &mut I, errors: &mut E) -> Head
-    ensures { Fits MOST result }
+// The head of the next case, if there is one.
+pub fn read_head<I: Read>(input: &mut I) -> Result<Option<Head>, Broken>
+    ensures { IfOk result (λ next. IfSome next (Fits MOST)) }
 {
     let mut bytes = [0u8; Head::BYTES];
     let came = read_full(input, &mut bytes);
     if came == 0 {
-        return Head::none();
+        return Ok(None);
     }
     if came < Head::BYTES {
-        complain_cut(errors);
-        return Head::none();
+        return Err(Broken::Cut);
     }
-    let head = head_of(&bytes);
-    if !head.whole {
-        complain(
-            errors,
-            b"cases: a call is 0, 1 or 2, and a table, a trace or a room has at most 1048576 bytes\n",
-        );
-    }
-    head
+    Ok(Some(head_of(&bytes)?))
+}
+
+// The next case, if there is one: its head, and its parts at the start of these.
+pub fn read_case<I: Read>(input: &mut I, parts: &mut Parts) -> Result<Option<Head>, Broken>
+    ensures { IfOk result (λ next. IfSome next (Fits MOST)) }
+{
+    let Some(head) = read_head(input)? else {
+        return Ok(None);
+    };
+    read_part(input, &mut parts.table[..head.table])?;
+    read_part(input, &mut parts.trace[..head.trace])?;
+    read_part(input, &mut parts.room[..head.room])?;
+    Ok(Some(head))
 }

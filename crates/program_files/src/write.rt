@@ -1,34 +1,43 @@
 // Writes a whole file.
-use std::fs;
 use std::fs::OpenFile;
-use std::io::Write;
+use std::io::{ErrorKind, Write};
 use std::rt::Files;
 use std::str::from_utf8;
+use std::{fs, io};
 
 // Closing a file answers nothing, so what was written is sent on to the disk first: a write that the system put off and that fails is told here.
-fn put_file<R: Files>(rt: &R, name: &str, first: &[u8], rest: &[u8]) -> bool {
-    match fs::create(rt, name) {
-        Ok(mut file) => {
-            let written = file.write_all(first).is_ok() && file.write_all(rest).is_ok();
-            let closed = file.sync_all().is_ok();
-            written && closed
-        }
-        Err(_) => false,
-    }
+fn put_file<R: Files>(rt: &R, name: &str, first: &[u8], rest: &[u8]) -> io::Result<()> {
+    let mut file = fs::create(rt, name)?;
+    file.write_all(first)?;
+    file.write_all(rest)?;
+    file.sync_all()
 }
 
-fn write_beside<R: Files>(rt: &R, name: &str, beside: &str, first: &[u8], rest: &[u8]) -> bool {
-    if put_file(rt, beside, first, rest) && fs::rename(rt, beside, name).is_ok() {
-        return true;
-    }
-    let _ = fs::remove_file(rt, beside);
-    false
+fn replace<R: Files>(
+    rt: &R,
+    name: &str,
+    beside: &str,
+    first: &[u8],
+    rest: &[u8],
+) -> io::Result<()> {
+    put_file(rt, beside, first, rest)?;
+    fs::rename(rt, beside, name)
 }
 
-// The file of that name becomes the two parts, and whether it did is answered. They are put into a file beside it, which then takes the name: if that fails, the old file stays. A name that is no text is that of no file: the library's paths are text.
-pub fn write_file<R: Files>(rt: &R, name: &[u8], beside: &[u8], first: &[u8], rest: &[u8]) -> bool {
-    match (from_utf8(name), from_utf8(beside)) {
-        (Ok(name), Ok(beside)) => write_beside(rt, name, beside, first, rest),
-        _ => false,
+// The file of that name becomes the two parts. They are put into a file beside it, which then takes the name: if that fails, the old file stays. A name that is no text is that of no file: the library's paths are text.
+// The names stay bytes, here and in read_file: text would ask more of callers.
+pub fn write_file<R: Files>(
+    rt: &R,
+    name: &[u8],
+    beside: &[u8],
+    first: &[u8],
+    rest: &[u8],
+) -> io::Result<()> {
+    let name = from_utf8(name).map_err(|_| ErrorKind::InvalidInput)?;
+    let beside = from_utf8(beside).map_err(|_| ErrorKind::InvalidInput)?;
+    let replaced = replace(rt, name, beside, first, rest);
+    if replaced.is_err() {
+        let _ = fs::remove_file(rt, beside);
     }
+    replaced
 }

@@ -4,13 +4,12 @@ use mathlib.Core.List.{List}
 use Prim.Native.Nat.{ℕ, ◌*◌, ◌≤◌}
 use native.Mathlib.Omega.{arith}
 use lib.ListN.{length}
-use Rattle.model.specs.declared.answer.Answer.{Answer}
-use Rattle.model.specs.declared.answer.Answer.TheVariants.{Done, Refused}
+use Rattle.std.specs.Prelude.{Ok, Err}
 use Rattle.model.specs.Sizes.{record_size}
 use Rattle.model.specs.Record.{file_of}
 use Rattle.model.specs.Left.{left}
 use Rattle.model.specs.Finish.{completion}
-use Rattle.model.specs.Reply.{Reply, reply_of}
+use Rattle.model.specs.Reply.{Reply, Answer, reply_of}
 use Rattle.model.specs.Calls.{completed_at, completed}
 use Rattle.model.proofs.Given.{stops-number}
 use Rattle.model.proofs.Replies.{replied-is, written_is}
@@ -26,10 +25,10 @@ fits table trace room =
     replied-is (Fits room) table trace room (completed_at room) (λ n i s e. absurd (omega (arith, stops-number table trace n i s)))
     (λ s f. written_is (Fits room) (left s) (record_size * left s) (file_of (completion s)) room (λ l e. omega arith) (λ l e. absurd (omega arith)))
 
-pub in-room : (table trace room : List ℕ) (answer : Answer) (after : List ℕ) → reply_of answer after ≡ completed table trace room → InRoom answer (length after)
-in-room table trace room (Done k) after e =
+pub in_room : (table trace room : List ℕ) (answer : Answer) (after : List ℕ) → reply_of answer after ≡ completed table trace room → InRoom answer (length after)
+in_room table trace room (Ok k) after e =
     let within = fits table trace room (ap (λ (r : Reply). r.number) (sym e)) in
     let place : k ≡ (completed table trace room).place = ap (λ (r : Reply). r.place) e in
     let long : length after ≡ length room = ap (λ (r : Reply). length r.room) e ∙ (finish-lends table trace room).long in
     rw (place, long) within
-in-room table trace room (Refused why place) after e = tt
+in_room table trace room (Err refused) after e = tt

@@ -1,40 +1,32 @@
 // The listing program: reads both files, checks, and says the reply.
-ghost use Rattle.std.specs.Prelude.{◌≤◌, length, replicate};
-ghost use Rattle.io.specs.Counts.{IsPrefixLen};
+ghost use Rattle.std.specs.Prelude.{◌≡◌, ◌++◌, ◌+◌, ◌≤◌, replicate};
+ghost use Rattle.arrayvec.specs.ArrayString.{array_string_len};
 ghost use Rattle.model.specs.Calls.{checked};
 ghost use Rattle.text.specs.Reply.{listed};
-ghost use Rattle.text.specs.Text.{Adds};
 
-use model::answer::Answer;
-use program_files::both::read_both;
-use program_files::read;
+use arrayvec::ArrayString;
+use model::table::Cells;
+use program_files::both::on_both;
 use program_files::say::say;
 use std::rt::Files;
-use text::reply;
-use text::reply::{MOST as REPLY, put_reply};
+use text::reply::{MOST, put_reply};
 
-// Checks, and puts the listing at the start of out. Answers its length.
-pub fn put_listing(out: &mut [u8], table: &[u8], trace: &[u8]) -> usize
-    requires { REPLY ≤ length out.old }
-    ensures prefix_len { IsPrefixLen result out.new }
-    ensures fact { Adds out.old 0 (listed (checked table.now trace.now (replicate Answer.WORDS 0))) out.new result }
+// Checks, and puts the listing.
+pub fn put_listing<const N: usize>(out: &mut ArrayString<N>, table: &[u8], trace: &[u8])
+    requires { array_string_len out.old + MOST ≤ N }
+    ensures { out.new.bytes ≡ out.old.bytes ++ listed (checked table.now trace.now (replicate Cells.RESULT 0)) }
 {
-    let mut room = [0u32; Answer::WORDS];
+    let mut room = [0u32; Cells::RESULT];
     let answer = checker::check::check(table, trace, &mut room);
-    put_reply(out, answer, &room)
+    put_reply(out, answer, &room);
 }
 
 fn show_reply(rt: &impl Print, table: &[u8], trace: &[u8]) {
-    let mut text = [0u8; reply::MOST];
-    let n = put_listing(&mut text, table, trace);
-    say(rt, &text[..n]);
+    let mut text = ArrayString::<MOST>::new();
+    put_listing(&mut text, table, trace);
+    say(rt, text.as_bytes());
 }
 
 pub fn show<R: Files + Print>(rt: &R) {
-    let mut table = [0u8; read::ROOM];
-    let mut trace = [0u8; read::ROOM];
-    let both = read_both(rt, &mut table, &mut trace);
-    if both.whole {
-        show_reply(rt, &table[..both.table], &trace[..both.trace]);
-    }
+    on_both(rt, |table, trace| show_reply(rt, table, trace));
 }

@@ -6,8 +6,8 @@ use Prim.Native.Nat.{ℕ, ◌+◌, ◌*◌, ◌≤◌}
 use native.Mathlib.Omega.{arith}
 use lib.ListN.{length, length-append}
 use Rattle.model.specs.declared.record.Record.{Record}
-use Rattle.model.specs.declared.answer.Answer.TheVariants.{Done, Refused}
-use Rattle.model.specs.declared.answer.Refusal.{Refusal}
+use Rattle.std.specs.Prelude.{Ok, Err}
+use Rattle.model.specs.declared.answer.Refused.{Refused}
 use Rattle.model.specs.Sizes.{record_size}
 use Rattle.model.specs.Lists.{All, In}
 use Rattle.model.specs.Tests.{Tested, refused}
@@ -66,8 +66,8 @@ reply-fits text room q (Imports.imported entries rs g x l) e = omega arith
 -- ---- the answers
 
 module _ (text room after : List ℕ) where
-  pub in-text : (why : Refusal) (place : ℕ) → reply_of (Refused why place) after ≡ imported text room → InText why place (length text)
-  in-text why place e h = reply-inside text room _ ((imports-exactly text room _).0 (sym e)) h
+  pub in-text : (r : Refused) → reply_of (Err r) after ≡ imported text room → InText r.why r.place (length text)
+  in-text r e h = reply-inside text room _ ((imports-exactly text room _).0 (sym e)) h
 
-  pub in-room : (k : ℕ) → reply_of (Done k) after ≡ imported text room → k * record_size ≤ length room
+  pub in-room : (k : ℕ) → reply_of (Ok k) after ≡ imported text room → k * record_size ≤ length room
   in-room k e = reply-fits text room _ ((imports-exactly text room _).0 (sym e)) refl

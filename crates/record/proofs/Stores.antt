@@ -26,11 +26,12 @@ module _ (at : ℕ) where
   fifth = omega arith
 
 -- the four stores of the code
-pub value_set : (l : List ℕ) (at v a b c d : ℕ) → at + 4 ≤ length l → a ≡ v % 256 → b ≡ v / 256 % 256 → c ≡ v / 65536 % 256 → d ≡ v / 16777216 % 256
-    → set (set (set (set l at a) (at + 1) b) (at + 2) c) (at + 3) d ≡ with_value l at v
+pub value_set : (l : List ℕ) (at v : ℕ) → at + 4 ≤ length l
+    → set (set (set (set l at (v % 256)) (at + 1) (v / 256 % 256)) (at + 2) (v / 65536 % 256)) (at + 3) (v / 16777216 % 256) ≡ with_value l at v
 unfolding with_value
-value_set l at v a b c d h ea eb ec ed =
-    (λ k. set (set (set (set l at (ea k)) (second at k) (eb k)) (third at k) (ec k)) (fourth at k) (ed k)) ∙ sets-eq (four_bytes v) l at h
+value_set l at v h =
+    (λ k. set (set (set (set l at (v % 256)) (second at k) (v / 256 % 256)) (third at k) (v / 65536 % 256)) (fourth at k) (v / 16777216 % 256))
+    ∙ sets-eq (four_bytes v) l at h
 
 -- four stores, and then the value
 pub record-set : (l : List ℕ) (i : ℕ) (r : Record) → i * 8 + 8 ≤ length l

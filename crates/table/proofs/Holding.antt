@@ -3,15 +3,14 @@ use mathlib.Core.Path.{◌≡◌, refl, sym, ap, ◌∙◌}
 use mathlib.Core.Bool.{Bool, true, false, cond, ◌||◌, or-false, or-true}
 use mathlib.Core.Option.{some, none}
 use mathlib.Core.List.{List, [], ◌∷◌, ◌++◌}
-use Prim.Native.Nat.{ℕ, ◌+◌, ◌<◌}
+use Prim.Native.Nat.{ℕ, ◌+◌, ◌*◌, ◌<◌}
 use native.Mathlib.Omega.{arith}
 use lib.ListN.{length, get_or, length-set}
-use lib.Seq.{get_or-set_other}
 use lib.Dec.{eqb, leb}
 use borrow.Author.Tests.{leb-false}
 use Rattle.model.specs.declared.record.Record.{Record}
 use Rattle.model.specs.declared.table.Cells.{Cells}
-use Rattle.model.specs.Sizes.{processors, registers_each, instructions_each, outcome_cells}
+use Rattle.model.specs.Sizes.{processors, registers_each, instructions_each, locations}
 use Rattle.model.specs.Program.{Instruction}
 use Rattle.model.specs.Machine.{Machine}
 use Rattle.model.specs.Kinds.{Entry, initial_memory, initial_register, instruction, table_uses, entry_of}
@@ -23,24 +22,24 @@ use Rattle.model.proofs.Bools.{one}
 use Rattle.model.proofs.Readable.{is_of}
 use Rattle.model.proofs.Rows.{alike}
 use Rattle.model.proofs.Roles.{by-entry}
-use Rattle.machine_state.specs.Packed.{memory_at}
-use Rattle.table_record.specs.Given.{Given, Formed, nothing_given, crowded_in, place_tests, noted_in}
+use Rattle.table_record.specs.declared.given.Given.{Given}
+use Rattle.table_record.specs.Given.{Formed, nothing_given, crowded_in, place_tests, noted_in}
 use Rattle.table_record.proofs.Forms.{formed}
 use Rattle.table_record.specs.Enter.{cells_with, with_instruction, program_with}
 use Rattle.table.specs.Reads.{no_program, no_cells}
 use Rattle.table.proofs.Entering.{memory-entered, register-entered, instruction-entered}
 use Rattle.table.proofs.Fitting.{fits_more, count-up}
-use Rattle.table.proofs.More.{any-more, instructions-more, start-more, flag_up, same_place, cells-apart}
+use Rattle.table.proofs.More.{any-more, instructions-more, start-more, flag_up, cells-apart}
 
 pub record Holds (g : Columns) (c : Cells) (s : Given) (es : List Entry) : Type 0 where
   pub machine : start_of g c ≡ start es
   pub fits : Fits g
   pub sized : Sized c
-  pub flagged : length s.cells ≡ outcome_cells
+  pub flagged : (length s.registers ≡ processors * registers_each) × (length s.memory ≡ locations)
   pub counts : (p : ℕ) → count_in g p ≡ instructions_of p es
   pub begun : s.instruction ≡ any is_instruction es
-  pub memory : (x : ℕ) → get_or s.cells (memory_at x) false ≡ any (gives_memory x) es
-  pub registers : (p r : ℕ) → p < processors → r < registers_each → get_or s.cells (register_at p r) false ≡ any (gives_register p r) es
+  pub memory : (x : ℕ) → get_or s.memory x false ≡ any (gives_memory x) es
+  pub registers : (p r : ℕ) → p < processors → r < registers_each → get_or s.registers (register_at p r) false ≡ any (gives_register p r) es
 
 -- ---- at first
 
@@ -64,11 +63,11 @@ holds-none = record {
   machine = refl;
   fits = fits-none;
   sized = sized-none;
-  flagged = refl;
+  flagged = (refl, refl);
   counts = λ p. alike {A = ℕ} 0 processors p;
   begun = refl;
-  memory = λ x. alike false outcome_cells (memory_at x);
-  registers = λ p r k h. alike false outcome_cells (register_at p r);
+  memory = λ x. alike false locations x;
+  registers = λ p r k h. alike false (processors * registers_each) (register_at p r);
 }
 
 -- ---- the code's tests are the model's
@@ -122,13 +121,11 @@ module _ (g : Columns) (c : Cells) (s : Given) (es : List Entry) (h : Holds g c 
         machine = step-on g g c (cells_with c e) es e h.machine (memory-entered g c x r.value);
         fits = h.fits;
         sized = record { registers = h.sized.registers; memory = length-set c.memory x r.value ∙ h.sized.memory };
-        flagged = length-set s.cells (memory_at x) true ∙ h.flagged;
+        flagged = (h.flagged.0, length-set s.memory x true ∙ h.flagged.1);
         counts = λ p. h.counts p ∙ uncounted p es e refl;
         begun = h.begun ∙ quiet is_instruction es e refl;
-        memory = λ y.
-            flag_up s.cells (memory_at x) (memory_at y) (any (gives_memory y) es) (omega (arith, h.flagged)) (h.memory y)
-            ∙ ap (λ (b : Bool). any (gives_memory y) es || b) (same_place 16 x y) ∙ sym (any-more (gives_memory y) es e);
-        registers = λ p q k l. get_or-set_other s.cells (memory_at x) (register_at p q) true false (λ z. omega arith) ∙ h.registers p q k l ∙ quiet (gives_register p q) es e refl;
+        memory = λ y. flag_up s.memory x y (any (gives_memory y) es) (omega (arith, h.flagged.1)) (h.memory y) ∙ sym (any-more (gives_memory y) es e);
+        registers = λ p q k l. h.registers p q k l ∙ quiet (gives_register p q) es e refl;
       }
 
   on-register : After (initial_register r.processor r.register r.value)
@@ -140,12 +137,12 @@ module _ (g : Columns) (c : Cells) (s : Given) (es : List Entry) (h : Holds g c 
         machine = step-on g g c (cells_with c e) es e h.machine (register-entered g c r f);
         fits = h.fits;
         sized = record { registers = length-set c.registers at r.value ∙ h.sized.registers; memory = h.sized.memory };
-        flagged = length-set s.cells at true ∙ h.flagged;
+        flagged = (length-set s.registers at true ∙ h.flagged.0, h.flagged.1);
         counts = λ p. h.counts p ∙ uncounted p es e refl;
         begun = h.begun ∙ quiet is_instruction es e refl;
-        memory = λ y. get_or-set_other s.cells at (memory_at y) true false (λ z. omega arith) ∙ h.memory y ∙ quiet (gives_memory y) es e refl;
+        memory = λ y. h.memory y ∙ quiet (gives_memory y) es e refl;
         registers = λ p q k l.
-            flag_up s.cells at (register_at p q) (any (gives_register p q) es) (omega (arith, h.flagged)) (h.registers p q k l)
+            flag_up s.registers at (register_at p q) (any (gives_register p q) es) (omega (arith, h.flagged.0)) (h.registers p q k l)
             ∙ ap (λ (b : Bool). any (gives_register p q) es || b) (cells-apart r.processor r.register p q f.register l)
             ∙ sym (any-more (gives_register p q) es e);
       }

@@ -50,14 +50,6 @@ flag_up l i x b h e = go (eqb i x) refl
     go true q = ap (λ (j : ℕ). get_or (set l i true) j false) (sym (eqb-true i x q)) ∙ get_or-set_same l i true false h ∙ sym (or-true b)
     go false q = get_or-set_other l i x true false (λ z. eqb-false i x q (sym z)) ∙ e ∙ sym (or-false b)
 
--- two places past the same n are one when the rest is
-pub same_place : (n x y : ℕ) → eqb (n + x) (n + y) ≡ eqb x y
-same_place n x y = go (eqb x y) refl
-  where
-    go : (b : Bool) → eqb x y ≡ b → eqb (n + x) (n + y) ≡ b
-    go true e = let z = eqb-true x y e in eq-eqb (n + x) (n + y) (omega arith)
-    go false e = ne_eqb (n + x) (n + y) (λ w. eqb-false x y e (omega arith))
-
 -- two registers are one cell when processor and register are the same
 pub cells-apart : (p q s t : ℕ) → q < registers_each → t < registers_each → eqb (registers_each * p + q) (registers_each * s + t) ≡ (eqb p s && eqb q t)
 cells-apart p q s t h k = go (eqb p s) (eqb q t) refl refl

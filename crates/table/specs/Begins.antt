@@ -1,7 +1,6 @@
 -- What reading a table in place promises: the verdict v, the program g, and the state m at its start, where no read is counted.
 use Rattle.std.specs.Prelude.{◌≡◌, List, ℕ}
-use Rattle.model.specs.declared.answer.Verdict.{Verdict}
-use Rattle.model.specs.Code.{Columns, tested_of}
+use Rattle.model.specs.Code.{Columns, Verdict, tested_of}
 use Rattle.machine.specs.View.{machine_of}
 use Rattle.machine.specs.Ready.{Ready}
 use Rattle.machine_state.specs.State.{State}

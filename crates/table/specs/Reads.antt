@@ -1,9 +1,8 @@
 -- What reading a table asks and promises.
 use Rattle.std.specs.Prelude.{◌≡◌, List, ℕ, ◌*◌, replicate}
-use Rattle.model.specs.declared.answer.Verdict.{Verdict}
 use Rattle.model.specs.declared.table.Cells.{Cells}
 use Rattle.model.specs.Sizes.{processors, registers_each, locations, instructions_each}
-use Rattle.model.specs.Code.{Columns, columns, cells_of, unread, tested_of, start_of, Fits, Sized}
+use Rattle.model.specs.Code.{Columns, columns, cells_of, unread, Verdict, tested_of, start_of, Fits, Sized}
 use Rattle.model.specs.Reading.{reading}
 use Rattle.model.specs.Table.{start}
 use Rattle.model.specs.Machine.{Machine}

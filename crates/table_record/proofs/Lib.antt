@@ -1,4 +1,2 @@
 pub mod Forms
-pub mod Cells
-pub mod Columns
 pub mod Entered

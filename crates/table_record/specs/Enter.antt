@@ -1,14 +1,13 @@
 -- A record entered into program and cells.
-use Rattle.std.specs.Prelude.{◌≡◌, Bool, true, false, List, [], ◌∷◌, ◌++◌, ℕ, ◌+◌, get_or, set, leb}
+use Rattle.std.specs.Prelude.{◌≡◌, Bool, true, false, List, [], ◌∷◌, ◌++◌, ℕ, ◌+◌, set, leb, Ok, Err}
 use Rattle.model.specs.declared.record.Record.{Record}
-use Rattle.model.specs.declared.answer.Verdict.{Verdict}
-use Rattle.model.specs.declared.answer.Verdict.TheVariants.{Passed, Refused}
 use Rattle.model.specs.declared.table.Cells.{Cells}
 use Rattle.model.specs.Kinds.{Entry, initial_memory, initial_register, instruction, entry_of}
 use Rattle.model.specs.Reading.{own_tests}
 use Rattle.model.specs.Tests.{Test, test}
-use Rattle.model.specs.Code.{Columns, columns, cells_of, register_at, place_at, count_in, Gives}
-use Rattle.table_record.specs.Given.{Given, place_tests, noted_in}
+use Rattle.model.specs.Code.{Columns, columns, cells_of, register_at, place_at, count_in, Verdict, Gives}
+use Rattle.table_record.specs.declared.given.Given.{Given}
+use Rattle.table_record.specs.Given.{place_tests, noted_in}
 
 -- ---- the entry of a record r, entered
 
@@ -33,14 +32,14 @@ program_with program r (instruction p i) = with_instruction program r
 
 -- a record that is refused changes nothing
 abbrev pub if_passed : {A : Type 0} → Verdict → A → A → A
-if_passed Passed new old = new
-if_passed (Refused why place) new old = old
+if_passed (Ok u) new old = new
+if_passed (Err r) new old = old
 
--- an initial record, which gives cell c its value
-pub record GivesCell (cells : List ℕ) (given : List Bool) (begun : Bool) (i c value : ℕ) (v : Verdict) (cells' : List ℕ) (given' : List Bool) : Type 0 where
-  pub gives : Gives v (test 5 begun ∷ test 6 (get_or given c false) ∷ []) i
-  pub cells_after : cells' ≡ if_passed v (set cells c value) cells
-  pub given_after : given' ≡ if_passed v (set given c true) given
+-- an initial record, which gives a cell its value
+pub record GivesCell (cell : ℕ) (given : Bool) (begun : Bool) (i value : ℕ) (v : Verdict) (cell' : ℕ) (given' : Bool) : Type 0 where
+  pub gives : Gives v (test 5 begun ∷ test 6 given ∷ []) i
+  pub cell_after : cell' ≡ if_passed v value cell
+  pub given_after : given' ≡ if_passed v true given
 
 -- an instruction
 pub record EntersInstruction (instructions : ℕ) (g : Columns) (begun : Bool) (i : ℕ) (r : Record) (v : Verdict) (h : Columns) (then : Bool) : Type 0 where

@@ -7,30 +7,31 @@ ghost use Rattle.model.specs.Code.{Gives};
 ghost use Rattle.model.specs.Reading.{own_tests};
 
 use model::answer::{Refusal, Verdict};
-use model::kind::{Role, role_of};
+use model::kind::Role;
 use model::record::Record;
 use record::fields;
 
+// Stays beside the one of crate trace: this gives 3 and 4, that one 10 for both.
 // Tests 3, 4 of record i, whose kind uses these of processor, register, location, value. Its kind is known.
 fn tested(used: [bool; Record::FIELDS], i: usize, r: Record) -> Verdict
     requires { Known table_uses r × (used ≡ row_of table_uses r.kind) }
     ensures { Gives result (own_tests r) i }
 {
     if fields::too_large(used, r) {
-        return Verdict::Refused(Refusal::TableRange, i);
+        return Err(Refusal::TableRange.at(i));
     }
     if fields::not_zero(used, r) {
-        return Verdict::Refused(Refusal::TableUnused, i);
+        return Err(Refusal::TableUnused.at(i));
     }
-    Verdict::Passed
+    Ok(())
 }
 
 // Tests 2, 3, 4 of record i. Each row is tested by itself: with its constants in place few instructions are left.
 pub fn malformed(i: usize, r: Record) -> Verdict
     ensures { Gives result (own_tests r) i }
 {
-    match role_of(r.kind) {
-        Role::Unknown => Verdict::Refused(Refusal::TableKind, i),
+    match Role::from(r.kind) {
+        Role::Unknown => Err(Refusal::TableKind.at(i)),
         Role::InitialMemory => tested([false, false, true, true], i, r),
         Role::InitialRegister | Role::SetRegister => tested([true, true, false, true], i, r),
         Role::StoreConstant => tested([true, false, true, true], i, r),

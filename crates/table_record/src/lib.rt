@@ -4,3 +4,4 @@
 mod cell;
 pub mod enter;
 mod form;
+pub mod given;

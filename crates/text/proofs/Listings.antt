@@ -4,8 +4,8 @@ use mathlib.Core.List.{List, [], ◌∷◌}
 use Prim.Native.Nat.{ℕ}
 use Rattle.model.specs.declared.answer.Refusal.TheVariants.{StepRule}
 use Rattle.model.specs.declared.answer.Condition.TheVariants.{NotRight}
-use Rattle.model.specs.declared.answer.Answer.TheVariants.{Done, Refused}
-use Rattle.model.specs.Reply.{reply_of}
+use Rattle.std.specs.Prelude.{Ok, Err}
+use Rattle.model.specs.Reply.{refusal_at, reply_of}
 use Rattle.text.specs.Text.{digits_of, spaced}
 use Rattle.text.specs.Reply.{processor_line, processor_lines, memory_line, own_line, finished_line, refused_line, lines_of, listed}
 
@@ -13,7 +13,7 @@ use Rattle.text.specs.Reply.{processor_line, processor_lines, memory_line, own_l
 abbrev room : List ℕ
 room = 0 ∷ 0 ∷ 0 ∷ 0 ∷ 0 ∷ 0 ∷ 0 ∷ 0 ∷ 0 ∷ 0 ∷ 0 ∷ 0 ∷ 0 ∷ 0 ∷ 0 ∷ 0 ∷ 1 ∷ 1 ∷ 0 ∷ 0 ∷ 0 ∷ 0 ∷ 0 ∷ 0 ∷ 0 ∷ []
 
-pub line-one : listed (reply_of (Done 6) room) ≡
+pub line-one : listed (reply_of (Ok 6) room) ≡
     102 ∷ 105 ∷ 110 ∷ 105 ∷ 115 ∷ 104 ∷ 101 ∷ 100 ∷ 32 ∷ 54 ∷ 10 ∷  -- finished 6
     112 ∷ 48 ∷ 32 ∷ 48 ∷ 32 ∷ 48 ∷ 32 ∷ 48 ∷ 32 ∷ 48 ∷ 10 ∷  -- p0 0 0 0 0
     112 ∷ 49 ∷ 32 ∷ 48 ∷ 32 ∷ 48 ∷ 32 ∷ 48 ∷ 32 ∷ 48 ∷ 10 ∷  -- p1 0 0 0 0
@@ -25,7 +25,7 @@ pub line-one : listed (reply_of (Done 6) room) ≡
 unfolding digits_of spaced processor_line processor_lines memory_line own_line finished_line lines_of listed
 line-one = refl
 
-pub line-two : listed (reply_of (Refused (StepRule NotRight) 2) room) ≡
+pub line-two : listed (reply_of (Err (refusal_at (StepRule NotRight) 2)) room) ≡
     114 ∷ 101 ∷ 102 ∷ 117 ∷ 115 ∷ 101 ∷ 100 ∷ 32 ∷ 49 ∷ 53 ∷ 32 ∷ 97 ∷ 116 ∷ 32 ∷ 50 ∷ 10 ∷  -- refused 15 at 2
     []
 unfolding digits_of refused_line lines_of listed

@@ -3,7 +3,8 @@ use mathlib.Core.Path.{◌≡◌, refl}
 use mathlib.Core.List.{List}
 use Prim.Native.Nat.{ℕ, zero, suc}
 use Rattle.model.specs.declared.answer.Refusal.{Refusal}
-use Rattle.model.specs.declared.answer.Answer.TheVariants.{Refused}
+use Rattle.model.specs.declared.answer.Refused.{Refused}
+use Rattle.std.specs.Prelude.{Err}
 use Rattle.model.specs.Reply.{number_of, reply_of}
 use Rattle.model.proofs.Answers.{not-zero}
 use Rattle.text.specs.Reply.{refused_line, lines_of, listed}
@@ -16,6 +17,6 @@ above line by h why = go (number_of why) (not-zero why)
     go zero n = absurd (n refl)
     go (suc k) n = h k
 
-pub refusal-listed : (why : Refusal) (place : ℕ) (room : List ℕ) → refused_line (number_of why) place ≡ listed (reply_of (Refused why place) room)
+pub refusal_listed : (r : Refused) (room : List ℕ) → refused_line (number_of r.why) r.place ≡ listed (reply_of (Err r) room)
 unfolding lines_of listed
-refusal-listed why place room = above (λ n. refused_line n place) (λ n. lines_of n place room) (λ n. refl) why
+refusal_listed r room = above (λ n. refused_line n r.place) (λ n. lines_of n r.place room) (λ n. refl) r.why

@@ -1,7 +1,7 @@
 -- Where a place of a text stands: its line and its column, and the part of its line that is shown.
 use Rattle.std.specs.Prelude.{◌≡◌, cond, List, [], ◌∷◌, ℕ, zero, suc, ◌+◌, ◌≤◌, eqb, length, drop, get_or}
 use Rattle.text_fault.specs.declared.position.Position.{Position}
-use Rattle.text_fault.specs.declared.line.Part.{Part}
+use Rattle.std.specs.declared.ops.Range.{Range}
 
 -- how many lines end before the place: with byte 10
 unfoldable pub ends_before : List ℕ → ℕ → ℕ
@@ -28,15 +28,15 @@ abbrev pub end_of : List ℕ → ℕ → ℕ
 end_of text place = place + up_to_end (drop place text)
 
 -- a part of the bytes from `start` up to `end`, with the place in it or at its end
-pub record Within (width start place end : ℕ) (p : Part) : Type 0 where
-  pub begins : start ≤ p.from
-  pub before : p.from ≤ place
-  pub behind : place ≤ p.to
-  pub ends : p.to ≤ end
-  pub narrow : p.to ≤ p.from + width
+pub record Within (width start place end : ℕ) (p : Range ℕ) : Type 0 where
+  pub begins : start ≤ p.start
+  pub before : p.start ≤ place
+  pub behind : place ≤ p.end
+  pub ends : p.end ≤ end
+  pub narrow : p.end ≤ p.start + width
 
 -- a part of the line from `start`: all of it, if it is not too wide
-pub record Around (width : ℕ) (text : List ℕ) (start place : ℕ) (p : Part) : Type 0 where
+pub record Around (width : ℕ) (text : List ℕ) (start place : ℕ) (p : Range ℕ) : Type 0 where
   pub within : Within width start place (end_of text place) p
-  pub inside : p.to ≤ length text
-  pub whole : end_of text place ≤ start + width → (p.from ≡ start) × (p.to ≡ end_of text place)
+  pub inside : p.end ≤ length text
+  pub whole : end_of text place ≤ start + width → (p.start ≡ start) × (p.end ≡ end_of text place)

@@ -1,6 +1,7 @@
 -- A part of a line as it is shown, and the mark under a place of it.
 use Rattle.std.specs.Prelude.{cond, ◌&&◌, List, [], ◌∷◌, ◌++◌, ℕ, zero, suc, ◌+◌, eqb, leb, get_or}
 use Rattle.text.specs.Text.{decimal, line}
+use Rattle.text.specs.Reply.{refused_word, at_word}
 
 -- one column for each byte: itself, " " for a carriage return, "?" for another that has no sign
 abbrev pub sign_of : ℕ → ℕ
@@ -28,14 +29,6 @@ shown_line text from n = line (indented (signs text from n))
 unfoldable pub mark_line : ℕ → List ℕ
 unfolding blanks
 mark_line k = indented (blanks k ++ (94 ∷ 10 ∷ []))
-
--- "refused "
-abbrev refused_word : List ℕ
-refused_word = 114 ∷ 101 ∷ 102 ∷ 117 ∷ 115 ∷ 101 ∷ 100 ∷ 32 ∷ []
-
--- " at "
-abbrev at_word : List ℕ
-at_word = 32 ∷ 97 ∷ 116 ∷ 32 ∷ []
 
 -- ": line "
 abbrev line_word : List ℕ

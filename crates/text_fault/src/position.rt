@@ -2,10 +2,8 @@
 ghost use Rattle.std.specs.Prelude.{◌≤◌, length};
 ghost use Rattle.text_fault.specs.Places.{Stands};
 
-use text::put::LINE_END;
-
 // Both from 1; columns are bytes.
-#[derive(Drop)]
+#[derive(Clone, Copy)]
 pub struct Position {
     pub line: usize,
     pub column: usize,
@@ -17,18 +15,13 @@ pub fn position_at(text: &[u8], place: usize) -> Position
 {
     let mut line: usize = 1;
     let mut column: usize = 1;
-    let mut i: usize = 0;
-    while i < place {
-        if text[i] == LINE_END {
+    for b in &text[..place] {
+        if *b == b'\n' {
             line += 1;
             column = 1;
         } else {
             column += 1;
         }
-        i += 1;
     }
-    Position {
-        line: line,
-        column: column,
-    }
+    Position { line, column }
 }

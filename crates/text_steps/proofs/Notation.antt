@@ -1,36 +1,45 @@
 -- What the functions for steps look up and put is the sheet's notation.
 use mathlib.Core.Path.{◌≡◌, refl, sym, ap, ◌∙◌}
 use mathlib.Core.List.{List, [], ◌∷◌, ◌++◌, append_assoc, append-nil}
-use Prim.Native.Nat.{ℕ, zero, suc, ◌+◌, ◌≤◌, ◌<◌}
-use native.Mathlib.Nat.{le_of_suc-le-suc, not-suc-le-zero}
+use Prim.Native.Nat.{ℕ, zero, suc, ◌+◌}
 use native.Mathlib.Omega.{arith}
-use borrow.Author.Tests.{le-leb, lt-leb}
-use lib.ListN.{length, get_or}
+use lib.ListN.{get_or}
 use Rattle.model.specs.Record.{record_at, records_from}
 use Rattle.model.specs.Rules.{Event}
 use Rattle.model.proofs.Bytes.{records-split}
-use Rattle.text.specs.Text.{decimal}
-use Rattle.text_steps.specs.Steps.{names, unknown, access, step_line, step_lines}
+use Rattle.std.specs.Prelude.{Option, Some, None}
+use Rattle.machine_rules.specs.declared.program.Step.{Step}
+use Rattle.machine_rules.specs.declared.program.Step.TheVariants.{Read, Write, Drain, Fence, Lock, Unlock, Local}
+use Rattle.machine_rules.specs.Steps.{step_of}
+use Rattle.text_steps.specs.Steps.{letters, unknown, step_line, step_lines}
 
--- what stands for a missing element does not matter where there is one
-pub either : (l : List ℕ) (d e n : ℕ) → n < length l → get_or l n d ≡ get_or l n e
-either [] d e n h = absurd (not-suc-le-zero h)
-either (a ∷ l) d e zero h = refl
-either (a ∷ l) d e (suc n) h = either l d e n (le_of_suc-le-suc h)
+-- ---- by the kind of step
 
--- ---- location and value
+-- the letter of a step, or of a number that is no kind of step
+abbrev pub letter_of : Option Step → ℕ
+letter_of None = unknown
+letter_of (Some Read) = 82
+letter_of (Some Write) = 87
+letter_of (Some Drain) = 68
+letter_of (Some Fence) = 70
+letter_of (Some Lock) = 76
+letter_of (Some Unlock) = 85
+letter_of (Some Local) = 78
 
-pub none_before : (e : Event) → e.kind < 1 → [] ≡ access e
-unfolding access
-none_before e h = rw (lt-leb 1 e.kind h)
-
-pub none_after : (e : Event) → 1 ≤ e.kind → 3 < e.kind → [] ≡ access e
-unfolding access
-none_after e l h = rw (le-leb 1 e.kind l, lt-leb e.kind 3 h)
-
-pub between : (e : Event) → 1 ≤ e.kind → e.kind ≤ 3 → 32 ∷ get_or names e.location unknown ∷ decimal e.value ≡ access e
-unfolding access
-between e l h = rw (le-leb 1 e.kind l, le-leb e.kind 3 h)
+pub letter_is : (kind : ℕ) (s : Option Step) → step_of kind ≡ s → letter_of s ∷ [] ≡ get_or letters kind unknown ∷ []
+unfolding step_of
+letter_is kind s e = ap (λ n. n ∷ []) (ap letter_of (sym e) ∙ go kind)
+  where
+    go : (kind : ℕ) → letter_of (step_of kind) ≡ get_or letters kind unknown
+    go zero = refl
+    go (suc zero) = refl
+    go (suc (suc zero)) = refl
+    go (suc (suc (suc zero))) = refl
+    go (suc (suc (suc (suc zero)))) = refl
+    go (suc (suc (suc (suc (suc zero))))) = refl
+    go (suc (suc (suc (suc (suc (suc zero)))))) = refl
+    go (suc (suc (suc (suc (suc (suc (suc zero))))))) = refl
+    go (suc (suc (suc (suc (suc (suc (suc (suc n)))))))) = refl
 
 -- ---- one step more
 
@@ -39,7 +48,7 @@ unfolding step_lines
 lines-append [] fs = refl
 lines-append (e ∷ es) fs = rw (lines-append es fs, append_assoc)
 
-pub one-more-step : (bytes : List ℕ) (i : ℕ)
+one-more-step : (bytes : List ℕ) (i : ℕ)
     → step_lines (records_from bytes 0 i) ++ step_line (record_at bytes i) ≡ step_lines (records_from bytes 0 (i + 1))
 unfolding step_lines records_from
 one-more-step bytes i =
@@ -48,3 +57,7 @@ one-more-step bytes i =
     sym
     (ap step_lines (records-split bytes 0 i 1) ∙ lines-append (records_from bytes 0 i) (records_from bytes (0 + i) 1)
     ∙ (λ k. step_lines (records_from bytes 0 i) ++ step_lines (records_from bytes (z k) 1)) ∙ ap (λ (t : List ℕ). step_lines (records_from bytes 0 i) ++ t) one)
+
+pub one_more_step : (before bytes : List ℕ) (i : ℕ)
+    → (before ++ step_lines (records_from bytes 0 i)) ++ step_line (record_at bytes i) ≡ before ++ step_lines (records_from bytes 0 (i + 1))
+one_more_step before bytes i = simp append_assoc (ap (λ (x : List ℕ). before ++ x) (one-more-step bytes i))

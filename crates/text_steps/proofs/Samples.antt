@@ -1,14 +1,14 @@
 -- Steps in document 01's notation, byte by byte.
 use mathlib.Core.Path.{◌≡◌, refl}
 use mathlib.Core.List.{[], ◌∷◌}
-use Rattle.model.specs.declared.answer.Answer.TheVariants.{Done}
+use Rattle.std.specs.Prelude.{Ok}
 use Rattle.model.specs.Record.{record_at, records_from, file_of}
 use Rattle.model.specs.Rules.{R, W, D, F, L, U, N}
 use Rattle.model.specs.Reply.{reply_of}
 use Rattle.text.specs.Text.{digits_of}
 use Rattle.text_steps.specs.Steps.{access, step_line, step_lines, shown_by, shown}
 
-pub line-four : shown (reply_of (Done 6) (file_of (W 0 0 1 ∷ D 0 0 1 ∷ R 0 1 0 ∷ W 1 1 1 ∷ D 1 1 1 ∷ R 1 0 1 ∷ []))) ≡
+pub line-four : shown (reply_of (Ok 6) (file_of (W 0 0 1 ∷ D 0 0 1 ∷ R 0 1 0 ∷ W 1 1 1 ∷ D 1 1 1 ∷ R 1 0 1 ∷ []))) ≡
     87 ∷ 48 ∷ 32 ∷ 120 ∷ 49 ∷ 10 ∷  -- W0 x1
     68 ∷ 48 ∷ 32 ∷ 120 ∷ 49 ∷ 10 ∷  -- D0 x1
     82 ∷ 48 ∷ 32 ∷ 121 ∷ 48 ∷ 10 ∷  -- R0 y0

@@ -2,13 +2,13 @@
 use mathlib.Core.Path.{◌≡◌, refl}
 use mathlib.Core.List.{List}
 use Prim.Native.Nat.{ℕ}
-use Rattle.model.specs.declared.answer.Refusal.{Refusal}
-use Rattle.model.specs.declared.answer.Answer.TheVariants.{Refused}
+use Rattle.model.specs.declared.answer.Refused.{Refused}
+use Rattle.std.specs.Prelude.{Err}
 use Rattle.model.specs.Reply.{number_of, reply_of}
 use Rattle.text.specs.Reply.{refused_line}
 use Rattle.text.proofs.Replied.{above}
 use Rattle.text_steps.specs.Steps.{shown_by, shown}
 
-pub refusal-shown : (why : Refusal) (place : ℕ) (room : List ℕ) → refused_line (number_of why) place ≡ shown (reply_of (Refused why place) room)
+pub refusal_shown : (r : Refused) (room : List ℕ) → refused_line (number_of r.why) r.place ≡ shown (reply_of (Err r) room)
 unfolding shown_by shown
-refusal-shown why place room = above (λ n. refused_line n place) (λ n. shown_by n place room) (λ n. refl) why
+refusal_shown r room = above (λ n. refused_line n r.place) (λ n. shown_by n r.place room) (λ n. refl) r.why

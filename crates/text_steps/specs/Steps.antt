@@ -1,11 +1,9 @@
 -- The sheet's notation of steps (document 01, "The sheet's worked lines"), a step a line: W0 x1, F0; N is a local step.
-use Rattle.std.specs.Prelude.{cond, ◌&&◌, List, [], ◌∷◌, ◌++◌, ℕ, zero, suc, ◌*◌, ◌≤◌, leb, get_or}
-use Rattle.model.specs.declared.answer.Answer.{Answer}
-use Rattle.model.specs.declared.answer.Answer.TheVariants.{Done, Refused}
+use Rattle.std.specs.Prelude.{Ok, Err, cond, ◌&&◌, List, [], ◌∷◌, ◌++◌, ℕ, zero, suc, ◌*◌, ◌≤◌, leb, get_or}
 use Rattle.model.specs.Sizes.{record_size}
 use Rattle.model.specs.Record.{records_from}
 use Rattle.model.specs.Rules.{Event}
-use Rattle.model.specs.Reply.{Reply}
+use Rattle.model.specs.Reply.{Reply, Answer}
 use Rattle.text.specs.Text.{decimal, line}
 use Rattle.text.specs.Reply.{refused_line}
 
@@ -44,5 +42,5 @@ shown reply = shown_by reply.number reply.place reply.room
 
 -- the records that an answer speaks of lie within a room of this length
 abbrev pub InRoom : Answer → ℕ → Type 0
-InRoom (Done k) room = k * record_size ≤ room
-InRoom (Refused why place) room = Unit {0}
+InRoom (Ok k) room = k * record_size ≤ room
+InRoom (Err refused) room = Unit {0}

@@ -1,32 +1,14 @@
 // Steps in the sheet's notation, a step a line.
-ghost use Rattle.std.specs.Prelude.{◌≡◌, ◌+◌, ◌*◌, ◌≤◌, length, get_or};
+ghost use Rattle.std.specs.Prelude.{◌≡◌, [], ◌∷◌, ◌++◌, ◌+◌, ◌*◌, ◌≤◌, length, get_or};
+ghost use Rattle.arrayvec.specs.ArrayString.{array_string_len};
 ghost use Rattle.model.specs.Record.{records_from};
-ghost use Rattle.text.specs.Text.{Adds};
 ghost use Rattle.text_steps.specs.Steps.{unknown, letters, names, access, step_line, step_lines};
 
-use machine_rules::program::{DRAIN, READ};
+use arrayvec::ArrayString;
+use machine_rules::program::Step;
 use model::record::Record;
-use model::table::Cells;
 use record::bytes::read_record;
-use text::put::{DIGITS, LINE_END, put_byte, put_number};
-
-const UNKNOWN: u8 = b'?';
-
-// The kinds of steps, with 0.
-const ROWS: usize = 8;
-
-const LETTERS: [u8; ROWS] = [
-    UNKNOWN, // 0 no kind
-    b'R', // 1 read
-    b'W', // 2 write
-    b'D', // 3 drain
-    b'F', // 4 fence
-    b'L', // 5 lock
-    b'U', // 6 unlock
-    b'N', // 7 local
-];
-
-const NAMES: [u8; Cells::LOCATIONS] = [b'x', b'y', b'z', b'a', b'b', b'c', b'd', b'e'];
+use text::put::{DIGITS, put_number};
 
 // A space, a name and a number.
 const ACCESS: usize = DIGITS + 2;
@@ -34,67 +16,72 @@ const ACCESS: usize = DIGITS + 2;
 // No line of a step is longer: a letter, a number, what is accessed and the line's end.
 pub const LINE: usize = DIGITS + ACCESS + 2;
 
-fn letter(kind: u8) -> u8
-    ensures { result ≡ get_or letters kind unknown }
+fn letter(kind: u8) -> &'static str
+    ensures { result.now ≡ get_or letters kind unknown ∷ [] }
 {
-    let k = kind as usize;
-    if k < ROWS {
-        return LETTERS[k];
+    match Step::try_from(kind) {
+        Ok(Step::Read) => "R",
+        Ok(Step::Write) => "W",
+        Ok(Step::Drain) => "D",
+        Ok(Step::Fence) => "F",
+        Ok(Step::Lock) => "L",
+        Ok(Step::Unlock) => "U",
+        Ok(Step::Local) => "N",
+        Err(_) => "?",
     }
-    UNKNOWN
 }
 
-fn name(location: u8) -> u8
-    ensures { result ≡ get_or names location unknown }
+fn name(location: u8) -> &'static str
+    ensures { result.now ≡ get_or names location unknown ∷ [] }
 {
-    let x = location as usize;
-    if x < Cells::LOCATIONS {
-        return NAMES[x];
+    match location {
+        0 => "x",
+        1 => "y",
+        2 => "z",
+        3 => "a",
+        4 => "b",
+        5 => "c",
+        6 => "d",
+        7 => "e",
+        _ => "?",
     }
-    UNKNOWN
 }
 
-// Location and value, if the step has them.
-fn put_access(out: &mut [u8], at: usize, e: Record) -> usize
-    requires { at + ACCESS ≤ length out.old }
-    ensures adds { Adds out.old at (access e) out.new result }
-    ensures upper_bound { result ≤ at + ACCESS }
+// Location and value, if the step has them. Stays a range of numbers: `access` is one, of a record of any kind.
+#[tactic(auto, unfolding(crate::specs::Steps::access))]
+fn put_access<const N: usize>(out: &mut ArrayString<N>, e: Record)
+    requires { array_string_len out.old + ACCESS ≤ N }
+    ensures adds { out.new.bytes ≡ out.old.bytes ++ access e }
+    ensures upper_bound { array_string_len out.new ≤ array_string_len out.old + ACCESS }
 {
-    if e.kind < READ {
-        return at;
+    if (u8::from(Step::Read)..=u8::from(Step::Drain)).contains(&e.kind) {
+        out.push_str(" ");
+        out.push_str(name(e.location));
+        put_number(out, u64::from(e.value));
     }
-    if e.kind > DRAIN {
-        return at;
-    }
-    let at = put_byte(out, at, b' ');
-    let at = put_byte(out, at, name(e.location));
-    put_number(out, at, e.value as u64)
 }
 
-fn put_step(out: &mut [u8], at: usize, e: Record) -> usize
-    requires { at + LINE ≤ length out.old }
-    ensures adds { Adds out.old at (step_line e) out.new result }
-    ensures upper_bound { result ≤ at + LINE }
+#[tactic(auto, unfolding(crate::specs::Steps::step_line))]
+fn put_step<const N: usize>(out: &mut ArrayString<N>, e: Record)
+    requires { array_string_len out.old + LINE ≤ N }
+    ensures adds { out.new.bytes ≡ out.old.bytes ++ step_line e }
+    ensures upper_bound { array_string_len out.new ≤ array_string_len out.old + LINE }
 {
-    let at = put_byte(out, at, letter(e.kind));
-    let at = put_number(out, at, e.processor as u64);
-    let at = put_access(out, at, e);
-    put_byte(out, at, LINE_END)
+    out.push_str(letter(e.kind));
+    put_number(out, u64::from(e.processor));
+    put_access(out, e);
+    out.push_str("\n");
 }
 
-// The first n records of these bytes, at the start of out.
-pub fn put_steps(out: &mut [u8], bytes: &[u8], n: usize) -> usize
-    requires n_in_bounds { n * LINE ≤ length out.old }
-    requires n_in_bounds_2 { n * Record.BYTES ≤ length bytes.now }
-    ensures adds { Adds out.old 0 (step_lines (records_from bytes.now 0 n)) out.new result }
-    ensures upper_bound { result ≤ length out.old }
+// The first n records of these bytes.
+#[tactic(auto, using(crate::proofs::Notation::one_more_step), unfolding(crate::specs::Steps::step_lines, model::specs::Record::records_from))]
+pub fn put_steps<const N: usize>(out: &mut ArrayString<N>, bytes: &[u8], n: usize)
+    requires in_bounds { array_string_len out.old + n * LINE ≤ N }
+    requires n_in_bounds { n * Record.BYTES ≤ length bytes.now }
+    ensures adds { out.new.bytes ≡ out.old.bytes ++ step_lines (records_from bytes.now 0 n) }
+    ensures upper_bound { array_string_len out.new ≤ array_string_len out.old + n * LINE }
 {
-    let mut next: usize = 0;
-    let mut i: usize = 0;
-    while i < n {
-        let e = read_record(bytes, i);
-        next = put_step(out, next, e);
-        i += 1;
+    for i in 0..n {
+        put_step(out, read_record(bytes, i));
     }
-    next
 }

@@ -1,9 +1,8 @@
 -- What following a trace promises, where g has the programs: from the verdict before it, and the state s, to the verdict v and the state m.
 use Rattle.std.specs.Prelude.{◌≡◌, List, ℕ}
-use Rattle.model.specs.declared.answer.Verdict.{Verdict}
 use Rattle.model.specs.Tests.{and_then}
 use Rattle.model.specs.Calls.{following}
-use Rattle.model.specs.Code.{Columns, tested_of}
+use Rattle.model.specs.Code.{Columns, Verdict, tested_of}
 use Rattle.machine.specs.View.{reached_of}
 use Rattle.machine.specs.Ready.{Ready}
 use Rattle.machine_state.specs.State.{State}

@@ -6,30 +6,37 @@ ghost use Rattle.model.specs.Fields.{Known};
 ghost use Rattle.model.specs.Kinds.{step_uses};
 ghost use Rattle.record.specs.Fields.{row_of};
 
-use machine_rules::program::{DRAIN, FENCE, LOCAL, LOCK, READ, UNLOCK, WRITE};
+use machine_rules::program::Step;
 use model::answer::{Refusal, Verdict};
 use model::record::Record;
 use record::fields;
 
-// Test 10 of record i, whose kind uses these of processor, register, location, value. Its kind is known.
+// Which of processor, register, location, value the kinds of steps use: those with a location and a value, and those without.
+const PLACED: [bool; Record::FIELDS] = [true, false, true, true];
+
+const BARE: [bool; Record::FIELDS] = [true, false, false, false];
+
+// Stays beside the one of crate table_record: this gives 10 for both, that one 3 and 4.
+// Test 10 of record i, whose kind uses these. Its kind is known.
 fn tested(used: [bool; Record::FIELDS], i: usize, e: Record) -> Verdict
     requires { Known step_uses e × (used ≡ row_of step_uses e.kind) }
     ensures { Gives result (step_tests e) i }
 {
     if fields::too_large(used, e) | fields::not_zero(used, e) {
-        return Verdict::Refused(Refusal::StepField, i);
+        return Err(Refusal::StepField.at(i));
     }
-    Verdict::Passed
+    Ok(())
 }
 
 // Tests 9, 10 of record i. Each row is tested by itself: with its constants in place few instructions are left.
 pub fn misread(i: usize, e: Record) -> Verdict
     ensures { Gives result (step_tests e) i }
 {
-    let kind = e.kind;
-    match kind {
-        READ | WRITE | DRAIN => tested([true, false, true, true], i, e),
-        FENCE | LOCK | UNLOCK | LOCAL => tested([true, false, false, false], i, e),
-        _ => Verdict::Refused(Refusal::StepKind, i),
+    let Ok(step) = Step::try_from(e.kind) else {
+        return Err(Refusal::StepKind.at(i));
+    };
+    match step {
+        Step::Read | Step::Write | Step::Drain => tested(PLACED, i, e),
+        Step::Fence | Step::Lock | Step::Unlock | Step::Local => tested(BARE, i, e),
     }
 }

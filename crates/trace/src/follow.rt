@@ -1,29 +1,29 @@
 // A trace, record by record, on the machine where it lies.
-ghost use Rattle.machine_state.specs.Packed.{state_of, columns_of};
 ghost use Rattle.machine.specs.Ready.{Ready};
 ghost use Rattle.trace.specs.Follows.{Follows};
 
-use crate::look;
-use machine_in_place::in_place;
+use crate::event;
+use machine::step;
 use machine_state::state::Machine;
-use model::answer::Verdict;
+use model::answer::{Refusal, Verdict};
+use model::record::Record;
 use model::table::Program;
+use record::bytes;
 
 // The whole trace, from the verdict of the table on: where the table is refused, no record is stepped.
 pub fn follow_in_place(program: &Program, m: &mut Machine, read: Verdict, trace: &[u8]) -> Verdict
-    requires { Ready (columns_of program.now) (state_of m.old) }
-    ensures { Follows (columns_of program.now) (state_of m.old) read trace.now result (state_of m.new) }
+    requires { Ready program.now m.old }
+    ensures { Follows program.now m.old read trace.now result m.new }
 {
-    let mut i: usize = 0;
-    let mut known = read;
-    loop {
-        let seen = look::look(trace, i, known);
-        if !seen.due {
-            break;
-        }
-        let attempt = in_place::step_in_place(program, m, seen.e);
-        known = look::verdict_at(i, attempt);
-        i += 1;
+    read?;
+    let n = trace.len() / Record::BYTES;
+    if trace.len() % Record::BYTES != 0 {
+        return Err(Refusal::TraceLength.at(n));
     }
-    look::concluded(trace, i, known)
+    for i in 0..n {
+        let e = bytes::read_record(trace, i);
+        event::misread(i, e)?;
+        step::step(program, m, e).map_err(|why| Refusal::StepRule(why).at(i))?;
+    }
+    Ok(())
 }

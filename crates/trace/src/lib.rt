@@ -3,4 +3,3 @@
 
 mod event;
 pub mod follow;
-mod look;

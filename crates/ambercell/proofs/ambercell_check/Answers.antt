@@ -2,4 +2,4 @@ use mathlib.Core.Path.{◌∙◌}
 use Rattle.ambercell.proofs.ambercell_check.Goals as goal
 
 pub returns : goal.returns
-returns c = c.numbered.ensures _ ∙ c.check.ensures
+returns c = c.from.ensures _ ∙ c.check.ensures

@@ -2,4 +2,4 @@ use mathlib.Core.Path.{◌∙◌}
 use Rattle.ambercell.proofs.ambercell_litmus.Goals as goal
 
 pub returns : goal.returns
-returns c = c.numbered.ensures _ ∙ c.litmus.ensures
+returns c = c.from.ensures _ ∙ c.litmus.ensures

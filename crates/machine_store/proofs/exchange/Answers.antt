@@ -10,7 +10,7 @@ exchanges-true o (inl e) = rw e
 exchanges-true o (inr e) = rw e
 
 pub returns-in-Exchange : goal.returns-in-Exchange
-returns-in-Exchange c = rw (← c.role_of.ensures, exchanges-true c.role_of.result c.in-Exchange.is)
+returns-in-Exchange c = rw (← c.from.ensures, exchanges-true c.from.result c.in-Exchange.is)
 
 -- no other role exchanges
 exchanges-false : (o : Role) → ¬ (o ≡ Exchange) → ¬ (o ≡ ExchangeAdd) → (acts o).exchanges ≡ false
@@ -26,4 +26,4 @@ exchanges-false Exchange x a = absurd (x refl)
 exchanges-false ExchangeAdd x a = absurd (a refl)
 
 pub returns-in_default : goal.returns-in_default
-returns-in_default c = rw (← c.role_of.ensures, exchanges-false c.role_of.result c.in_default.not-Exchange c.in_default.not-ExchangeAdd)
+returns-in_default c = rw (← c.from.ensures, exchanges-false c.from.result c.in_default.not-Exchange c.in_default.not-ExchangeAdd)

@@ -5,7 +5,7 @@ use Rattle.model.specs.declared.kind.Role.TheVariants.{Unknown, InitialMemory, I
 use Rattle.machine_store.proofs.receive.Goals as goal
 
 pub returns-in-Load : goal.returns-in-Load
-returns-in-Load c = rw (← c.role_of.ensures, c.in-Load.is)
+returns-in-Load c = rw (← c.from.ensures, c.in-Load.is, c.register.ensures)
 
 -- no other role loads
 loads-false : (o : Role) → ¬ (o ≡ Load) → (acts o).loads ≡ false
@@ -21,4 +21,4 @@ loads-false Exchange n = refl
 loads-false ExchangeAdd n = refl
 
 pub returns-in_default : goal.returns-in_default
-returns-in_default c = rw (← c.role_of.ensures, loads-false c.role_of.result c.in_default.not-Load)
+returns-in_default c = rw (← c.from.ensures, loads-false c.from.result c.in_default.not-Load)

@@ -12,17 +12,14 @@ use Rattle.case.proofs.words.write_words.Goals as goal
 
 pub loop-i-init : goal.loop-i-init
 unfolding bytes_in
-loop-i-init c = (search rules, search rules, refl)
+loop-i-init c = refl
 
 pub loop-i-preserved : goal.loop-i-preserved
 unfolding with_value
-loop-i-preserved c = (
-  search rules,
-  search rules,
-  c.put_value.ensures ∙ ap (λ (l : List ℕ). with_value l (c.loop-i.i * word_size) (get_or c.args.words.now c.loop-i.i 0)) c.loop-i.invariant.2
-      ∙ writes_one pieces c.args.words.now c.args.bytes.now c.loop-i.i (search rules),
-)
+loop-i-preserved c =
+    c.put_value.ensures ∙ ap (λ (l : List ℕ). with_value l (c.loop-i.i * word_size) (get_or c.args.words.now c.loop-i.i 0)) c.loop-i.invariant
+    ∙ writes_one pieces c.args.words.now c.args.bytes.now c.loop-i.i (search rules)
 
 pub returns : goal.returns
 returns c =
-    c.loop-i.invariant.2 ∙ writes-all pieces c.args.words.now c.args.bytes.now c.loop-i.i (search rules)
+    c.loop-i.invariant ∙ writes-all pieces c.args.words.now c.args.bytes.now c.loop-i.i (search rules)

@@ -1,27 +1,22 @@
-use Rattle.std.proofs.Common.{arith}
-use Rattle.finish_step.proofs.Carried.{read-carried, write-carried, lock-carried, unlock-carried, local-carried, fence-carried}
+use Rattle.finish_step.proofs.Carried.{read-carried, write-carried, fence-carried, lock-carried, unlock-carried, local-carried}
 use Rattle.finish_step.proofs.carry.carry_out.Goals as goal
 
-pub issue-requires : goal.issue-requires
-issue-requires c = c.requires.write c.in-2.is
+pub returns-in-Read : goal.returns-in-Read
+returns-in-Read c = rw (c.receive.ensures, c.event-e.ensures, c.in-Read.is) (read-carried _ _ c.requires.dry)
 
-pub returns-in-1 : goal.returns-in-1
-returns-in-1 c = rw (c.in-1.is, c.event.ensures, c.receive.ensures) (read-carried _ _ _ _ _ _ c.requires)
+pub returns-in-Write : goal.returns-in-Write
+returns-in-Write c =
+    rw (c.issue.ensures, c.exchange.ensures, c.register-c.ensures, c.event-e-in-Write.ensures, c.in-Write.is)
+    (write-carried _ _ _ (rw (← c.register-c.ensures) c.issued_by-v.ensures))
 
-pub returns-in-2 : goal.returns-in-2
-returns-in-2 c =
-    rw (c.in-2.is, c.event-in-2.ensures, c.exchange.ensures, c.issue.ensures.0, c.issue.ensures.1, c.issue.ensures.2)
-    (write-carried _ _ _ _ _ _ c.requires _ c.issued_by-v.ensures)
+pub returns-in-Fence : goal.returns-in-Fence
+returns-in-Fence c = rw (c.event.ensures, c.in-Fence.is) (fence-carried _ _)
 
-pub returns-in-5 : goal.returns-in-5
-returns-in-5 c = rw (c.in-5.is, c.event-in-5.ensures) (lock-carried _ _ _ _ _ _ c.requires)
+pub returns-in-Lock : goal.returns-in-Lock
+returns-in-Lock c = rw (c.event-in-Lock.ensures, c.in-Lock.is) (lock-carried _ _)
 
-pub returns-in-6 : goal.returns-in-6
-returns-in-6 c = rw (c.in-6.is, c.event-in-6.ensures) (unlock-carried _ _ _ _ _ _ c.requires)
+pub returns-in-Unlock : goal.returns-in-Unlock
+returns-in-Unlock c = rw (c.event-in-Unlock.ensures, c.in-Unlock.is) (unlock-carried _ _)
 
-pub returns-in-7 : goal.returns-in-7
-returns-in-7 c = rw (c.in-7.is, c.event-in-7.ensures) (local-carried _ _ _ _ _ _ c.requires)
-
-pub returns-in_default : goal.returns-in_default
-returns-in_default c =
-    rw c.event-in_default.ensures (fence-carried _ _ _ _ _ _ c.requires (omega arith) (omega arith) (omega arith) (omega arith) (omega arith))
+pub returns-in-Local : goal.returns-in-Local
+returns-in-Local c = rw (c.assign.ensures, c.event-in-Local.ensures, c.in-Local.is) (local-carried _ _)

@@ -1,13 +1,9 @@
-use mathlib.Core.Path.{refl}
+use Rattle.model.proofs.Raised.{raised}
 use Rattle.litmus.proofs.Imported.{text-refused, text-tabled}
 use Rattle.litmus.proofs.litmus.litmus.Goals as goal
 
-pub read_text-requires : goal.read_text-requires
-read_text-requires c = refl
+pub returns-in_err-read_text : goal.returns-in_err-read_text
+returns-in_err-read_text c = rw (raised c.from_residual.result c.in_err-read_text.field-0.0 c.from_residual.ensures.1) (text-refused _ _ _ _ c.read_text.ensures _ c.in_err-read_text.was)
 
-pub returns-in-Refused : goal.returns-in-Refused
-returns-in-Refused c = text-refused _ _ _ _ c.read_text.ensures _ _ c.in-Refused.is
-
-pub returns-in-Done : goal.returns-in-Done
-returns-in-Done c =
-    text-tabled _ _ _ _ c.read_text.ensures _ c.in-Done.is _ _ c.tabled.ensures
+pub returns : goal.returns
+returns c = text-tabled _ _ _ _ c.read_text.ensures c.in_ok-read_text.was _ _ c.tabled.ensures

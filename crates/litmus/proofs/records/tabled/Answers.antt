@@ -1,26 +1,21 @@
-use mathlib.Core.Path.{sym}
-use Rattle.litmus.proofs.Tabling.{words_long, words-fit, refused-table, room-too-small, room-filled}
+use mathlib.Core.Path.{◌≡◌}
+use lib.ListN.{length}
+use borrow.Author.Rules.{rules}
+use Rattle.model.proofs.Raised.{raised}
+use Rattle.litmus.proofs.Tabling.{refused-table, room-too-small, room-filled}
 use Rattle.litmus.proofs.records.tabled.Goals as goal
 
-pub slice_bounds-readable-end : goal.slice_bounds-readable-end
-slice_bounds-readable-end c = sym (words_long _ _ _ c.requires c.kept-k.ensures)
+pub returns-in_err-readable : goal.returns-in_err-readable
+returns-in_err-readable c =
+    let long : length c.args.records.now.words ≡ 89 = search rules in
+    rw (raised c.from_residual.result c.in_err-readable.field-0.0 c.from_residual.ensures.1) (refused-table c.args.records.now _ long c.min-k.ensures _ _ c.readable.ensures _ c.in_err-readable.was)
 
 pub returns-then-room-end : goal.returns-then-room-end
 returns-then-room-end c =
-    room-too-small _ _ _ c.requires c.kept-k.ensures _ _ c.readable.ensures c.in-Passed.is c.if-room-end.true
+    let long : length c.args.records.now.words ≡ 89 = search rules in
+    rw c.at.ensures (room-too-small c.args.records.now _ long c.min-k.ensures _ _ c.readable.ensures c.in_ok-readable.was c.if-room-end.true)
 
-pub slice_bounds-write_records-end : goal.slice_bounds-write_records-end
-slice_bounds-write_records-end c =
-    sym (words_long _ _ _ c.requires c.kept-k.ensures)
-
-pub write_records-requires : goal.write_records-requires
-write_records-requires c =
-    words-fit _ _ _ c.requires c.kept-k.ensures _ c.if-room-end.false
-
-pub returns-in-Refused : goal.returns-in-Refused
-returns-in-Refused c =
-    refused-table _ _ _ c.requires c.kept-k.ensures _ _ c.readable.ensures _ _ c.in-Refused.is
-
-pub returns-else-room-end : goal.returns-else-room-end
-returns-else-room-end c =
-    room-filled _ _ _ c.requires c.kept-k.ensures _ _ c.readable.ensures c.in-Passed.is c.if-room-end.false _ c.write_records.ensures
+pub returns : goal.returns
+returns c =
+    let long : length c.args.records.now.words ≡ 89 = search rules in
+    room-filled c.args.records.now _ long c.min-k.ensures _ _ c.readable.ensures c.in_ok-readable.was c.if-room-end.false _ c.write_records.ensures

@@ -1,4 +1,5 @@
 use mathlib.Core.Path.{◌≡◌, refl}
+use Prim.Native.Nat.{◌<◌}
 use native.Mathlib.Numerals.{add-one}
 use native.Mathlib.Omega.{arith}
 use lib.ListN.{length}
@@ -7,68 +8,66 @@ use Rattle.litmus_reader.proofs.Cells.{begin, cell-unended}
 use Rattle.litmus_reader.proofs.Turns.{turn-none, turn-past, fits-there, turn-wrong, turn-closed, turn-shorter, turn_on}
 use Rattle.litmus_reader.proofs.form.read_form.Goals as goal
 
-pub loop-alive-init : goal.loop-alive-init
-loop-alive-init c =
-    (λ place m a b. begin _ _ place _ _ _ a b, omega arith, c.requires.2, omega arith, c.requires.0, search rules)
+pub loop-i-init : goal.loop-i-init
+loop-i-init c =
+    (begin _ _ c.args.place.now _ _ _ c.flags_in-alive.ensures c.blank_in-r.ensures, c.mark_in-mark.ensures, omega arith, omega arith, c.requires, search rules)
 
-pub returns-then-text-from : goal.returns-then-text-from
-returns-then-text-from c =
-    let rd = c.loop-alive.invariant.0 c.args.place c.mark_in-mark.ensures c.flags_in-alive.ensures c.blank_in-r.ensures in
-    (record { says = cell-unended _ _ _ _ _ _ _ _ _ rd _ c.next_token-next.ensures.0 c.if-text-from.true; further = tt }, c.loop-alive.invariant.2)
+pub returns-then-token-text : goal.returns-then-token-text
+returns-then-token-text c =
+    rw c.at.ensures (record { says = cell-unended _ _ _ _ _ _ _ _ _ c.loop-i.invariant.0 _ c.next_token-token.ensures.0 (omega arith); further = tt })
 
-pub returns-then-j-ge-COUNT : goal.returns-then-j-ge-COUNT
-returns-then-j-ge-COUNT c =
+pub returns-in_default : goal.returns-in_default
+returns-in_default c =
     let twelve : length c.advance-left.result ≡ 12 = search rules in
-    let rd = c.loop-alive.invariant.0 c.args.place c.mark_in-mark.ensures c.flags_in-alive.ensures c.blank_in-r.ensures in
-    (record { says = turn-none _ _ _ _ _ _ _ _ _ rd _ c.next_token-next.ensures.0 c.if-text-from.false _ _ _ c.mark_in-mark.ensures c.loop-alive.invariant.5 twelve c.advance-left.ensures c.first_alive-j.ensures c.if-j-ge-COUNT.true; further = tt }, c.loop-alive.invariant.2)
+    let inside : c.next_token-token.result.start < length c.args.text.now = omega (arith, c.if-token-text.false) in
+    rw c.at-in_default.ensures (record { says = turn-none _ _ _ _ _ _ _ _ _ c.loop-i.invariant.0 _ c.next_token-token.ensures.0 inside _ _ _ c.loop-i.invariant.1 c.loop-i.invariant.5 twelve c.advance-left.ensures c.first_alive.ensures c.in_default.is; further = tt })
+
+pub pattern_at-requires : goal.pattern_at-requires
+pattern_at-requires c = ((c.first_alive.ensures.found _ c.in-Some.is).0, c.loop-i.invariant.2)
 
 pub note-requires : goal.note-requires
 note-requires c =
     let twelve : length c.advance-left.result ≡ 12 = search rules in
-    let rd = c.loop-alive.invariant.0 c.args.place c.mark_in-mark.ensures c.flags_in-alive.ensures c.blank_in-r.ensures in
-    (fits-there _ _ _ _ _ _ _ _ _ rd _ c.next_token-next.ensures.0 c.if-text-from.false _ _ _ c.mark_in-mark.ensures c.loop-alive.invariant.5 twelve c.advance-left.ensures c.first_alive-j.ensures c.if-j-ge-COUNT.false _ c.code_at.ensures, c.loop-alive.invariant.2)
+    let inside : c.next_token-token.result.start < length c.args.text.now = omega (arith, c.if-token-text.false) in
+    fits-there _ _ _ _ _ _ _ _ _ c.loop-i.invariant.0 _ c.next_token-token.ensures.0 inside _ _ _ c.loop-i.invariant.1 c.loop-i.invariant.5 twelve c.advance-left.ensures c.first_alive.ensures _ c.in-Some.is _ c.pattern_at.ensures
 
-pub returns-in-Wrong : goal.returns-in-Wrong
-returns-in-Wrong c =
+pub returns-in-Err : goal.returns-in-Err
+returns-in-Err c =
     let twelve : length c.advance-left.result ≡ 12 = search rules in
-    let rd = c.loop-alive.invariant.0 c.args.place c.mark_in-mark.ensures c.flags_in-alive.ensures c.blank_in-r.ensures in (
-      record {
-        says = turn-wrong _ _ _ _ _ _ _ _ _ rd _ c.next_token-next.ensures.0 c.if-text-from.false _ _ _ c.mark_in-mark.ensures c.loop-alive.invariant.5 twelve c.advance-left.ensures
-            c.first_alive-j.ensures c.if-j-ge-COUNT.false _ c.code_at.ensures _ c.note.ensures.notes c.in-Wrong.is;
-        further = tt;
-      },
-      c.note.ensures.letters_le_locations,
+    let inside : c.next_token-token.result.start < length c.args.text.now = omega (arith, c.if-token-text.false) in
+    rw c.at-in-Err.ensures (
+    record {
+      says = turn-wrong _ _ _ _ _ _ _ _ _ c.loop-i.invariant.0 _ c.next_token-token.ensures.0 inside _ _ _ c.loop-i.invariant.1 c.loop-i.invariant.5 twelve
+          c.advance-left.ensures c.first_alive.ensures _ c.in-Some.is _ c.pattern_at.ensures _ c.note.ensures c.in-Err.is;
+      further = tt;
+    }
     )
 
-pub returns-then-i-j : goal.returns-then-i-j
-returns-then-i-j c =
+pub form_at-form-requires : goal.form_at-form-requires
+form_at-form-requires c = (c.first_alive.ensures.found _ c.in-Some.is).0
+
+pub returns-then-i-form : goal.returns-then-i-form
+returns-then-i-form c =
     let twelve : length c.advance-left.result ≡ 12 = search rules in
-    let rd = c.loop-alive.invariant.0 c.args.place c.mark_in-mark.ensures c.flags_in-alive.ensures c.blank_in-r.ensures in (
-      record {
-        says = turn-closed _ _ _ _ _ _ _ _ _ rd _ c.next_token-next.ensures.0 c.if-text-from.false _ _ _ c.mark_in-mark.ensures c.loop-alive.invariant.5 twelve c.advance-left.ensures
-            c.first_alive-j.ensures c.if-j-ge-COUNT.false _ c.code_at.ensures _ _ c.note.ensures.notes c.in-Well.is c.if-i-j.true refl;
-        further = (let p = turn-past _ _ _ _ _ _ _ _ _ rd _ c.next_token-next.ensures.0 c.if-text-from.false _ _ _ c.mark_in-mark.ensures c.loop-alive.invariant.5 twelve c.advance-left.ensures c.first_alive-j.ensures in omega arith, c.next_token-next.ensures.3);
-      },
-      c.note.ensures.letters_le_locations,
+    let inside : c.next_token-token.result.start < length c.args.text.now = omega (arith, c.if-token-text.false) in
+    let past = turn-past _ _ _ _ _ _ _ _ _ c.loop-i.invariant.0 _ c.next_token-token.ensures.0 inside _ _ _ c.loop-i.invariant.1 c.loop-i.invariant.5 twelve c.advance-left.ensures c.first_alive.ensures in
+    let closes = rw c.form_at-form.ensures at c.if-i-form.true in
+    rw c.form_at-form.ensures (
+    record {
+      says = turn-closed _ _ _ _ _ _ _ _ _ c.loop-i.invariant.0 _ c.next_token-token.ensures.0 inside _ _ _ c.loop-i.invariant.1 c.loop-i.invariant.5 twelve c.advance-left.ensures c.first_alive.ensures _ c.in-Some.is _ c.pattern_at.ensures _ _ c.note.ensures c.in-Ok.is closes refl;
+      further = (omega arith, c.next_token-token.ensures.3);
+    }
     )
 
-pub loop-alive-smaller : goal.loop-alive-smaller
-loop-alive-smaller c =
+pub loop-i-preserved : goal.loop-i-preserved
+loop-i-preserved c =
     let twelve : length c.advance-left.result ≡ 12 = search rules in
-    let rd = c.loop-alive.invariant.0 c.args.place c.mark_in-mark.ensures c.flags_in-alive.ensures c.blank_in-r.ensures in
-    let h = turn-shorter _ _ _ _ _ _ _ _ _ rd _ c.next_token-next.ensures.0 c.if-text-from.false _ _ _ c.mark_in-mark.ensures c.loop-alive.invariant.5 twelve c.advance-left.ensures c.first_alive-j.ensures c.if-j-ge-COUNT.false _ c.code_at.ensures c.if-i-j.false in
-    omega arith
-
-pub loop-alive-preserved : goal.loop-alive-preserved
-loop-alive-preserved c =
-    let twelve : length c.advance-left.result ≡ 12 = search rules in
-    let rd = c.loop-alive.invariant.0 c.args.place c.mark_in-mark.ensures c.flags_in-alive.ensures c.blank_in-r.ensures in (
-      λ place mk al bl.
-          rw add-one (turn_on _ _ _ _ _ _ _ _ _ (c.loop-alive.invariant.0 place mk al bl) _ c.next_token-next.ensures.0 c.if-text-from.false _ _ _ mk c.loop-alive.invariant.5 twelve c.advance-left.ensures
-          c.first_alive-j.ensures c.if-j-ge-COUNT.false _ c.code_at.ensures _ c.note.ensures.notes c.in-Well.is c.if-i-j.false),
-      turn-shorter _ _ _ _ _ _ _ _ _ rd _ c.next_token-next.ensures.0 c.if-text-from.false _ _ _ c.mark_in-mark.ensures c.loop-alive.invariant.5 twelve c.advance-left.ensures c.first_alive-j.ensures c.if-j-ge-COUNT.false _ c.code_at.ensures c.if-i-j.false,
-      c.note.ensures.letters_le_locations,
+    let inside : c.next_token-token.result.start < length c.args.text.now = omega (arith, c.if-token-text.false) in
+    let goes = rw c.form_at-form.ensures at c.if-i-form.false in (
+      rw add-one (turn_on _ _ _ _ _ _ _ _ _ c.loop-i.invariant.0 _ c.next_token-token.ensures.0 inside _ _ _ c.loop-i.invariant.1 c.loop-i.invariant.5 twelve c.advance-left.ensures c.first_alive.ensures _ c.in-Some.is _ c.pattern_at.ensures _ c.note.ensures c.in-Ok.is goes),
+      c.loop-i.invariant.1,
+      turn-shorter _ _ _ _ _ _ _ _ _ c.loop-i.invariant.0 _ c.next_token-token.ensures.0 inside _ _ _ c.loop-i.invariant.1 c.loop-i.invariant.5 twelve c.advance-left.ensures c.first_alive.ensures _ c.in-Some.is _ c.pattern_at.ensures goes,
       omega arith,
-      c.next_token-next.ensures.3,
+      c.next_token-token.ensures.3,
       twelve,
     )

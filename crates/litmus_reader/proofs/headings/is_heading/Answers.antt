@@ -1,10 +1,6 @@
-use Rattle.litmus_reader.proofs.Columns.{is-heading, no-heading}
+use mathlib.Core.Path.{◌∙◌}
+use Rattle.litmus_reader.proofs.Columns.{is-heading}
 use Rattle.litmus_reader.proofs.headings.is_heading.Goals as goal
 
-pub returns-then-t-ne2 : goal.returns-then-t-ne2
-returns-then-t-ne2 c =
-    no-heading _ _ c.requires c.if-t-ne2.true
-
 pub returns : goal.returns
-returns c =
-    is-heading _ _ c.requires c.if-t-ne2.false
+returns c = c.same_bytes.ensures ∙ is-heading c.args.n c.args.t.now c.requires

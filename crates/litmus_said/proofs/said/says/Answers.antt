@@ -1,56 +1,36 @@
 use native.Mathlib.Omega.{arith}
-use Rattle.litmus_said.proofs.Saying.{location-long, register-long, constant-long, dollar-long, said_at, says_nothing}
-use Rattle.litmus_said.specs.Saying.{register, letter}
-use Rattle.litmus_form.specs.Flags.{pattern_at}
+use borrow.Author.Rules.{rules}
+use Prim.Native.Nat.{◌≤◌}
+use lib.ListN.{length}
 use Rattle.litmus_model.specs.Forms.{mention}
+use Rattle.litmus_form.specs.declared.patterns.Pattern.TheVariants as arm
+use Rattle.litmus_form.specs.Patterns.{pattern_of}
+use Rattle.litmus_said.specs.Saying.{letter, register}
+use Rattle.litmus_said.proofs.Saying.{location-long, register-long, dollar-long, said_at, says_nothing}
 use Rattle.litmus_said.proofs.said.says.Goals as goal
 
--- `litmus_said::said::says` meets its contract.
 pub bounds-t-0 : goal.bounds-t-0
-bounds-t-0 c =
-    location-long c.args.code c.args.t.now c.in-6.is c.requires
+bounds-t-0 c = location-long c.args.pattern c.args.t.now c.in-Location.is c.requires
 
 pub bounds-t-1 : goal.bounds-t-1
-bounds-t-1 c =
-    (register-long c.args.code c.args.t.now c.in-7.is c.requires).0
+bounds-t-1 c = (register-long c.args.pattern c.args.t.now c.in-Register.is c.requires).0
 
 pub overflow_sub-result : goal.overflow_sub-result
-overflow_sub-result c =
-    (register-long c.args.code c.args.t.now c.in-7.is c.requires).1
+overflow_sub-result c = (register-long c.args.pattern c.args.t.now c.in-Register.is c.requires).1
 
-pub constant-requires : goal.constant-requires
-constant-requires c =
-    constant-long c.args.code c.args.t.now c.in-9.is c.requires
+pub slice_bounds-constant-count : goal.slice_bounds-constant-count
+slice_bounds-constant-count c = let h = dollar-long c.args.pattern c.args.t.now c.in-Dollar.is c.requires in omega arith
 
-pub constant-requires-in-10 : goal.constant-requires-in-10
-constant-requires-in-10 c =
-    dollar-long c.args.code c.args.t.now c.in-10.is c.requires
+pub slice_bounds-constant-start : goal.slice_bounds-constant-start
+slice_bounds-constant-start c = let h = dollar-long c.args.pattern c.args.t.now c.in-Dollar.is c.requires in let k : 1 ≤ length c.args.t.now = omega arith in search rules
 
-pub returns-in-6 : goal.returns-in-6
-unfolding mention pattern_at
-returns-in-6 c =
-    said_at c.args.code 6 c.args.t.now _ c.in-6.is letter
+pub returns-in-Location : goal.returns-in-Location
+unfolding mention pattern_of
+returns-in-Location c = said_at c.args.pattern arm.Location c.args.t.now _ c.in-Location.is letter
 
-pub returns-in-7 : goal.returns-in-7
-unfolding mention pattern_at
-returns-in-7 c =
-    said_at c.args.code 7 c.args.t.now _ c.in-7.is register
-
-pub returns-in-8 : goal.returns-in-8
-unfolding mention pattern_at
-returns-in-8 c =
-    said_at c.args.code 8 c.args.t.now _ c.in-8.is c.processor.ensures
-
-pub returns-in-9 : goal.returns-in-9
-unfolding mention pattern_at
-returns-in-9 c =
-    said_at c.args.code 9 c.args.t.now _ c.in-9.is c.constant.ensures
-
-pub returns-in-10 : goal.returns-in-10
-unfolding mention pattern_at
-returns-in-10 c =
-    said_at c.args.code 10 c.args.t.now _ c.in-10.is c.constant-in-10.ensures
+pub returns-in-Register : goal.returns-in-Register
+unfolding mention pattern_of
+returns-in-Register c = said_at c.args.pattern arm.Register c.args.t.now _ c.in-Register.is register
 
 pub returns-in_default : goal.returns-in_default
-returns-in_default c =
-    says_nothing c.args.code c.args.t.now (omega arith) (omega arith) (omega arith) (omega arith) (omega arith)
+returns-in_default c = says_nothing c.args.pattern c.args.t.now c.in_default.not-Location c.in_default.not-Register c.in_default.not-Processor c.in_default.not-Constant c.in_default.not-Dollar

@@ -1,13 +1,13 @@
-use Rattle.litmus_token.proofs.Classes.{dollar-none, dollar-other, dollar-sign}
 use mathlib.Core.Path.{◌∙◌}
+use native.Mathlib.Omega.{arith}
+use Rattle.litmus_token.proofs.Classes.{dollar-none, dollar-other, dollar-sign}
 use Rattle.litmus_token.proofs.tokens.is_dollar.Goals as goal
 
--- `litmus_token::tokens::is_dollar` meets its contract. Assumes nothing.
-pub returns-then-t-eq0 : goal.returns-then-t-eq0
-returns-then-t-eq0 c = dollar-none c.args.t.now c.if-t-eq0.true
+pub returns-in-36 : goal.returns-in-36
+returns-in-36 c = c.is_constant.ensures ∙ dollar-sign _ c.in-36.len_at_least (omega arith)
 
-pub returns-then-t-ne36 : goal.returns-then-t-ne36
-returns-then-t-ne36 c = dollar-other c.args.t.now c.if-t-eq0.false c.if-t-ne36.true
+pub returns-in_default : goal.returns-in_default
+returns-in_default c = dollar-none _ c.in_default.len_below
 
-pub returns : goal.returns
-returns c = c.is_constant.ensures ∙ dollar-sign c.args.t.now c.if-t-eq0.false c.if-t-ne36.false
+pub returns-in_default-2 : goal.returns-in_default-2
+returns-in_default-2 c = dollar-other _ (λ e. omega (arith, e))

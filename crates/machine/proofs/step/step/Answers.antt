@@ -1,67 +1,61 @@
-use native.Mathlib.Omega.{arith}
-use mathlib.Core.Path.{sym, ◌∙◌}
-use Prim.Native.Nat.{◌<◌, ◌≤◌}
-use lib.ListN.{get_or}
-use Rattle.machine_state.specs.Packed.{stands_at, counts_in}
+use mathlib.Core.Path.{sym, subst, ◌∙◌}
+use Rattle.model.specs.Code.{Attempt}
+use Rattle.model.proofs.Raised.{raised}
+use Rattle.machine.specs.Ready.{Steps}
 use Rattle.model.proofs.Events.{low-processor}
-use Rattle.machine.proofs.Taking.{can-drain, drains-it, at-the-end, below, known-kind, another, may-take, onwards, takes-it, turns-it}
+use Rattle.machine.proofs.Taking.{can-drain, drains-it, at-the-end, below, known-kind, none-left, not-so, may-take, onwards, takes-it, turns-it}
 use Rattle.machine.proofs.step.step.Goals as goal
 
 -- ---- a drain
 
 pub drain-requires : goal.drain-requires
-drain-requires c = can-drain _ _ _ _ _ _ c.requires.0 c.args.e c.requires.1
+drain-requires c = can-drain _ _ c.requires.0 c.args.e c.requires.1
 
-pub returns-then-e-eq-DRAIN : goal.returns-then-e-eq-DRAIN
-returns-then-e-eq-DRAIN c = drains-it _ _ _ _ _ _ c.requires.0 c.args.e c.requires.1 c.if-e-eq-DRAIN.true _ _ _ c.drain.ensures
+pub returns-then-e-from : goal.returns-then-e-from
+returns-then-e-from c = drains-it _ _ c.requires.0 c.args.e c.requires.1 (c.if-e-from.true ∙ c.from.ensures) _ _ c.drain.ensures
 
 -- ---- a program step
 
-pub bounds-marks-p : goal.bounds-marks-p
-bounds-marks-p c = let p = low-processor c.args.e c.requires.1 in omega arith
-
-pub count-requires : goal.count-requires
-count-requires c = low-processor c.args.e c.requires.1
-
 pub returns-then-count-a : goal.returns-then-count-a
 returns-then-count-a c =
-    let l : get_or (counts_in c.args.codes.now) c.args.e.processor 0 ≤ get_or c.args.marks.now (stands_at c.args.e.processor) 0 = omega arith in
-    at-the-end _ _ _ _ _ _ c.requires.0 c.args.e c.requires.1 c.if-e-eq-DRAIN.false l
+    at-the-end _ _ c.requires.0 c.args.e c.requires.1 (λ z. c.if-e-from.false (z ∙ sym c.from.ensures)) (rw (← c.count.ensures) c.if-count-a.true)
 
 pub instruction-i-requires : goal.instruction-i-requires
 instruction-i-requires c =
-    let l : get_or c.args.marks.now (stands_at c.args.e.processor) 0 < get_or (counts_in c.args.codes.now) c.args.e.processor 0 = omega arith in
-    (low-processor c.args.e c.requires.1, below _ _ _ _ _ _ c.requires.0 c.args.e c.requires.1 l)
+    (low-processor c.args.e c.requires.1, below _ _ c.requires.0 c.args.e c.requires.1 (rw (← c.count.ensures) c.if-count-a.false))
 
-pub bounds-marks-p-2 : goal.bounds-marks-p-2
-bounds-marks-p-2 c = let p = low-processor c.args.e c.requires.1 in omega arith
+pub next_step-requires : goal.next_step-requires
+next_step-requires c = known-kind _ _ c.requires.0 c.args.e c.requires.1 (rw (← c.count.ensures) c.if-count-a.false) _ c.instruction-i.ensures
 
-pub step_kind-requires : goal.step_kind-requires
-step_kind-requires c =
-    let l : get_or c.args.marks.now (stands_at c.args.e.processor) 0 < get_or (counts_in c.args.codes.now) c.args.e.processor 0 = omega arith in
-    known-kind _ _ _ _ _ _ c.requires.0 c.args.e c.requires.1 l _ c.instruction-i.ensures
+pub returns-in_default : goal.returns-in_default
+returns-in_default c =
+    none-left _ _ c.requires.0 c.args.e c.requires.1 (rw (← c.count.ensures) c.if-count-a.false) _ c.instruction-i.ensures
+    (λ z. c.if-e-from.false (z ∙ sym c.from.ensures)) (sym c.in_default.is ∙ c.next_step.ensures)
 
-pub returns-then-e-step_kind : goal.returns-then-e-step_kind
-returns-then-e-step_kind c =
-    let l : get_or c.args.marks.now (stands_at c.args.e.processor) 0 < get_or (counts_in c.args.codes.now) c.args.e.processor 0 = omega arith in
-    another _ _ _ _ _ _ c.requires.0 c.args.e c.requires.1 l _ c.instruction-i.ensures c.if-e-eq-DRAIN.false (λ z. c.if-e-step_kind.true (z ∙ sym c.step_kind.ensures))
+pub returns-then-from-e : goal.returns-then-from-e
+returns-then-from-e c =
+    not-so _ _ c.requires.0 c.args.e c.requires.1 (rw (← c.count.ensures) c.if-count-a.false) _ c.instruction-i.ensures
+    (λ z. c.if-e-from.false (z ∙ sym c.from.ensures)) c.in-Some.next (sym c.in-Some.is ∙ c.next_step.ensures) (λ z. c.if-from-e.true (c.from-2.ensures ∙ z))
 
 pub take_next-requires : goal.take_next-requires
 take_next-requires c =
-    let l : get_or c.args.marks.now (stands_at c.args.e.processor) 0 < get_or (counts_in c.args.codes.now) c.args.e.processor 0 = omega arith in
-    may-take _ _ _ _ _ _ c.requires.0 c.args.e c.requires.1 l _ c.instruction-i.ensures c.if-e-eq-DRAIN.false (c.if-e-step_kind.false ∙ c.step_kind.ensures)
+    may-take _ _ c.requires.0 c.args.e c.requires.1 (rw (← c.count.ensures) c.if-count-a.false) _ c.instruction-i.ensures
+    (λ z. c.if-e-from.false (z ∙ sym c.from.ensures)) c.in-Some.next (sym c.in-Some.is ∙ c.next_step.ensures) (sym c.from-2.ensures ∙ c.if-from-e.false)
+
+pub returns-in_err-take_next : goal.returns-in_err-take_next
+returns-in_err-take_next c =
+    subst (λ (r : Attempt). Steps c.args.program.now c.args.m.now c.args.e r c.take_next.new.m)
+    (sym (raised c.from_residual.result c.in_err-take_next.field-0.0 c.from_residual.ensures.1))
+    (turns-it _ _ c.requires.0 c.args.e c.requires.1 (rw (← c.count.ensures) c.if-count-a.false) _ c.instruction-i.ensures
+    (λ z. c.if-e-from.false (z ∙ sym c.from.ensures)) c.in-Some.next (sym c.in-Some.is ∙ c.next_step.ensures) (sym c.from-2.ensures ∙ c.if-from-e.false) _ _
+    c.take_next.ensures _ c.in_err-take_next.was)
 
 pub advance-requires : goal.advance-requires
 advance-requires c =
-    let l : get_or c.args.marks.now (stands_at c.args.e.processor) 0 < get_or (counts_in c.args.codes.now) c.args.e.processor 0 = omega arith in
-    onwards _ _ _ _ _ _ c.requires.0 c.args.e c.requires.1 l _ c.instruction-i.ensures c.if-e-eq-DRAIN.false (c.if-e-step_kind.false ∙ c.step_kind.ensures) _ _ _ _ _ c.take_next.ensures
+    onwards _ _ c.requires.0 c.args.e c.requires.1 (rw (← c.count.ensures) c.if-count-a.false) _ c.instruction-i.ensures
+    (λ z. c.if-e-from.false (z ∙ sym c.from.ensures)) c.in-Some.next (sym c.in-Some.is ∙ c.next_step.ensures) (sym c.from-2.ensures ∙ c.if-from-e.false) _ _ c.take_next.ensures
 
-pub returns-in-Taken : goal.returns-in-Taken
-returns-in-Taken c =
-    let l : get_or c.args.marks.now (stands_at c.args.e.processor) 0 < get_or (counts_in c.args.codes.now) c.args.e.processor 0 = omega arith in
-    takes-it _ _ _ _ _ _ c.requires.0 c.args.e c.requires.1 l _ c.instruction-i.ensures c.if-e-eq-DRAIN.false (c.if-e-step_kind.false ∙ c.step_kind.ensures) _ _ _ _ _ c.take_next.ensures c.in-Taken.is _ c.advance.ensures
-
-pub returns-in-Turned : goal.returns-in-Turned
-returns-in-Turned c =
-    let l : get_or c.args.marks.now (stands_at c.args.e.processor) 0 < get_or (counts_in c.args.codes.now) c.args.e.processor 0 = omega arith in
-    turns-it _ _ _ _ _ _ c.requires.0 c.args.e c.requires.1 l _ c.instruction-i.ensures c.if-e-eq-DRAIN.false (c.if-e-step_kind.false ∙ c.step_kind.ensures) _ _ _ _ _ c.take_next.ensures _ c.in-Turned.is
+pub returns : goal.returns
+returns c =
+    takes-it _ _ c.requires.0 c.args.e c.requires.1 (rw (← c.count.ensures) c.if-count-a.false) _ c.instruction-i.ensures
+    (λ z. c.if-e-from.false (z ∙ sym c.from.ensures)) c.in-Some.next (sym c.in-Some.is ∙ c.next_step.ensures) (sym c.from-2.ensures ∙ c.if-from-e.false) _ _ c.take_next.ensures c.in_ok-take_next.was _ c.advance.ensures

@@ -5,10 +5,10 @@ use Rattle.model.specs.Code.{acts}
 use Rattle.machine_rules.proofs.guards.issued_by.Goals as goal
 
 pub returns-in-StoreConstant : goal.returns-in-StoreConstant
-returns-in-StoreConstant c = rw (← c.role_of.ensures, c.in-StoreConstant.is)
+returns-in-StoreConstant c = rw (← c.from.ensures, c.in-StoreConstant.is)
 
 pub returns-in-ExchangeAdd : goal.returns-in-ExchangeAdd
-returns-in-ExchangeAdd c = rw (← c.role_of.ensures, c.in-ExchangeAdd.is) c.wrapping_add_u32.ensures.value
+returns-in-ExchangeAdd c = rw (← c.from.ensures, c.in-ExchangeAdd.is)
 
 -- every other role issues what the register holds
 issues-register : (o : Role) (constant kept register : ℕ) → ¬ (o ≡ StoreConstant) → ¬ (o ≡ ExchangeAdd) → register ≡ (acts o).issues constant kept register
@@ -25,4 +25,4 @@ issues-register ExchangeAdd c k r s e = absurd (e refl)
 
 pub returns-in_default : goal.returns-in_default
 returns-in_default c =
-    rw (← c.role_of.ensures) (issues-register c.role_of.result c.args.constant c.args.kept c.args.register c.in_default.not-StoreConstant c.in_default.not-ExchangeAdd)
+    rw (← c.from.ensures) (issues-register c.from.result c.args.constant c.args.kept c.args.register c.in_default.not-StoreConstant c.in_default.not-ExchangeAdd)

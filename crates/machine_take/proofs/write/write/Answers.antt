@@ -1,20 +1,18 @@
-use mathlib.Core.Path.{refl}
+use mathlib.Core.Path.{refl, ap, ◌∙◌}
 use Rattle.model.specs.Rules.{conditions}
 use Rattle.model.specs.Step.{first_met}
+use Rattle.machine_state.specs.State.{State}
+use Rattle.machine_store.specs.Stores.{exchanged_in, issued_in}
 use Rattle.machine_take.proofs.write.write.Goals as goal
 
-pub returns-then-right : goal.returns-then-right
+pub returns-then-not-right : goal.returns-then-not-right
 unfolding first_met conditions
-returns-then-right c =
-    record {
-      says = rw (← c.issued_by.ensures, c.if-right.true);
-      cells_after = c.exchange.ensures;
-      locations_after = c.issue.ensures.0;
-      values_after = c.issue.ensures.1;
-      marks_after = c.issue.ensures.2;
-    }
+returns-then-not-right c = record { says = rw (← c.register-c.ensures, ← c.issued_by-issued.ensures, c.if-not-right.true); after = refl }
 
 pub returns : goal.returns
 unfolding first_met conditions
 returns c =
-    record { says = rw (← c.issued_by.ensures, c.if-right.false); cells_after = refl; locations_after = refl; values_after = refl; marks_after = refl }
+    record {
+      says = rw (← c.register-c.ensures, ← c.issued_by-issued.ensures, c.if-not-right.false);
+      after = c.issue.ensures ∙ ap (λ (s : State). issued_in s c.args.i c.args.e) (c.exchange.ensures ∙ ap (exchanged_in c.args.m.now c.args.i) c.register-c.ensures);
+    }

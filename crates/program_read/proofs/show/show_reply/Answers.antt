@@ -1,32 +1,27 @@
 -- The records lie in the room, and the place in the text, by what the call ensures.
-use mathlib.Core.Path.{◌≡◌, sym, subst}
-use Prim.Native.Nat.{ℕ, ◌*◌, ◌≤◌}
-use native.Mathlib.Omega.{arith}
-use borrow.Author.Rules.{rules}
-use lib.ListN.{length, take, replicate}
+use Rattle.std.proofs.Common.{arith, ◌≡◌, ◌*◌, sym, length, replicate}
 use lib.Seq.{length-take-le}
 use Rattle.program_read.proofs.Places.{in-text, in-room}
 use Rattle.program_read.proofs.show.show_reply.Goals as goal
 
-pub overflow_mul-end : goal.overflow_mul-end
-overflow_mul-end g c =
-    let within = in-room (take c.args.n c.args.text.now) (replicate 704 0) c.litmus-answer.new.room c.in-Done.k c.in-Done.ensures in
+pub overflow_mul-room : goal.overflow_mul-room
+overflow_mul-room g c =
+    let within = in-room c.as_slice.result.now (replicate 704 0) c.litmus.new.room c.in-Ok.k c.in-Ok.ensures in
     omega arith
 
 pub slice_bounds-room-end : goal.slice_bounds-room-end
 slice_bounds-room-end g c =
-    let within = in-room (take c.args.n c.args.text.now) (replicate 704 0) c.litmus-answer.new.room c.in-Done.k c.in-Done.ensures in
-    let long : length c.litmus-answer.new.room ≡ 704 = c.litmus-answer.auto.room in
+    let within = in-room c.as_slice.result.now (replicate 704 0) c.litmus.new.room c.in-Ok.k c.in-Ok.ensures in
+    let long : length c.litmus.new.room ≡ 704 = c.litmus.auto.room in
     omega arith
 
 pub slice_bounds-keep-end : goal.slice_bounds-keep-end
 slice_bounds-keep-end g c =
-    let within = in-room (take c.args.n c.args.text.now) (replicate 704 0) c.litmus-answer.new.room c.in-Done.k c.in-Done.ensures in
-    let long : length c.litmus-answer.new.room ≡ 704 = c.litmus-answer.auto.room in
-    sym (length-take-le (c.in-Done.k * 8) c.litmus-answer.new.room (omega arith))
+    let within = in-room c.as_slice.result.now (replicate 704 0) c.litmus.new.room c.in-Ok.k c.in-Ok.ensures in
+    let long : length c.litmus.new.room ≡ 704 = c.litmus.auto.room in
+    sym (length-take-le (c.in-Ok.k * 8) c.litmus.new.room (omega arith))
 
 pub say_refusal-requires-clause-in_text : goal.say_refusal-requires-clause-in_text
 say_refusal-requires-clause-in_text g c =
-    let inside = in-text (take c.args.n c.args.text.now) (replicate 704 0) c.litmus-answer.new.room c.in-Refused.why c.in-Refused.place c.in-Refused.ensures in
-    let long : length (take c.args.n c.args.text.now) ≡ c.args.n = length-take-le c.args.n c.args.text.now (search rules) in
-    λ h. subst (λ (k : ℕ). c.in-Refused.place ≤ k) long (inside h)
+    let inside = in-text c.as_slice.result.now (replicate 704 0) c.litmus.new.room c.in-Err.refused c.in-Err.ensures in
+    λ h. rw (← c.as_slice.ensures.value) (inside h)

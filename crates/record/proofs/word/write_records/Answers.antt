@@ -1,5 +1,4 @@
 use mathlib.Core.Path.{refl, ◌∙◌}
-use Prim.Native.Nat.{◌-◌}
 use borrow.Author.Rules.{rules}
 use Rattle.model.specs.Sizes.{record_size}
 use Rattle.model.specs.Record.{bytes_of, file_of}
@@ -15,17 +14,14 @@ pieces = record { sized = λ w. refl; none = refl; more = λ w ws. refl }
 
 pub loop-i-init : goal.loop-i-init
 unfolding file_of
-loop-i-init c = (search rules, search rules, refl)
+loop-i-init c = refl
 
 pub loop-i-preserved : goal.loop-i-preserved
 unfolding with_record
-loop-i-preserved c = (
-  search rules,
-  search rules,
-  c.write_record.ensures ∙ (λ j. with_record (c.loop-i.invariant.2 j) c.loop-i.i (c.unpacked.ensures j))
-      ∙ writes_one pieces c.args.words.now c.args.room.now c.loop-i.i (search rules),
-)
+loop-i-preserved c =
+    c.write_record.ensures ∙ (λ j. with_record (c.loop-i.invariant j) c.loop-i.i (c.unpacked.ensures j))
+    ∙ writes_one pieces c.args.words.now c.args.room.now c.loop-i.i (search rules)
 
 pub returns : goal.returns
 returns c =
-    c.loop-i.invariant.2 ∙ writes-all pieces c.args.words.now c.args.room.now c.loop-i.i (search rules)
+    c.loop-i.invariant ∙ writes-all pieces c.args.words.now c.args.room.now c.loop-i.i (search rules)

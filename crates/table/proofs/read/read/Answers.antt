@@ -1,12 +1,12 @@
-use Prim.Native.Nat.{◌-◌, ◌<◌}
 use mathlib.Core.Path.{refl, ◌∙◌}
 use mathlib.Core.List.{[]}
-use borrow.Author.Rules.{rules}
 use native.Mathlib.Omega.{arith}
 use lib.ListN.{length}
+use Prim.Native.Nat.{◌<◌}
 use Rattle.model.specs.declared.record.Record.{Record}
 use Rattle.model.specs.Record.{record_at, records}
 use Rattle.model.proofs.Bytes.{length-records}
+use Rattle.model.proofs.Raised.{raised}
 use Rattle.table.proofs.Holding.{holds-none}
 use Rattle.table.proofs.Turns.{ends, stops, holds_on, goes_on}
 use Rattle.table.proofs.Files.{record-in, odd, records-refused, records-passed}
@@ -17,43 +17,27 @@ none : Record
 none = record_at [] 0
 
 pub returns-then-table-ne0 : goal.returns-then-table-ne0
-returns-then-table-ne0 c = (odd c.args.table.now _ _ c.requires c.if-table-ne0.true, refl)
-
--- an empty table
-pub returns-then-n-eq0 : goal.returns-then-n-eq0
-returns-then-n-eq0 c =
-    (rw (c.requires.0, c.requires.1) (records-passed c.args.table.now c.if-table-ne0.false _ _ holds-none (ends (records c.args.table.now) 0 (omega (arith, length-records c.args.table.now)) refl)), refl)
+returns-then-table-ne0 c = rw c.at.ensures (odd c.args.table.now _ _ c.requires c.if-table-ne0.true)
 
 pub loop-i-init : goal.loop-i-init
-loop-i-init c = (refl, rw (c.requires.0, c.requires.1) holds-none, refl, refl)
+loop-i-init c = (rw (c.requires.0, c.requires.1, c.nothing-given.ensures) holds-none, refl)
 
-pub read_record-r-requires : goal.read_record-r-requires
-read_record-r-requires c = omega arith
-
-pub returns-in-Refused : goal.returns-in-Refused
-returns-in-Refused c = (
-  records-refused c.args.table.now c.if-table-ne0.false
-      (stops (records c.args.table.now) none (omega (arith, length-records c.args.table.now)) c.loop-i.invariant.1 c.loop-i.invariant.2 (c.read_record-r.ensures ∙ record-in c.args.table.now c.loop-i.i none (omega arith)) c.enter_record.ensures.0 _ _ c.in-Refused.is),
-  c.enter_record.ensures.1 ∙ c.loop-i.invariant.3,
-)
-
-pub overflow_add-i : goal.overflow_add-i
-overflow_add-i c =
-    search rules
-
-pub loop-i-smaller : goal.loop-i-smaller
-loop-i-smaller c = omega arith
+pub returns-in_err-enter_record : goal.returns-in_err-enter_record
+returns-in_err-enter_record c =
+    rw (raised c.from_residual.result c.in_err-enter_record.field-0.0 c.from_residual.ensures.1)
+    (records-refused c.args.table.now c.if-table-ne0.false _
+    (stops (records c.args.table.now) none (omega (arith, length-records c.args.table.now)) c.loop-i.invariant.0 c.loop-i.invariant.1
+    (c.read_record-r.ensures ∙ record-in c.args.table.now c.loop-i.i none (omega arith)) c.in_err-enter_record.ensures _ refl))
 
 pub loop-i-preserved : goal.loop-i-preserved
 loop-i-preserved c =
     let inside : c.loop-i.i < length (records c.args.table.now) = omega (arith, length-records c.args.table.now) in
     let same = c.read_record-r.ensures ∙ record-in c.args.table.now c.loop-i.i none (omega arith) in (
-      c.loop-i.invariant.0,
-      holds_on (records c.args.table.now) none inside c.loop-i.invariant.1 c.loop-i.invariant.2 same c.enter_record.ensures.0 c.in-Passed.is,
-      goes_on (records c.args.table.now) none inside c.loop-i.invariant.1 c.loop-i.invariant.2 same c.enter_record.ensures.0 c.in-Passed.is,
-      c.enter_record.ensures.1 ∙ c.loop-i.invariant.3,
+      holds_on (records c.args.table.now) none inside c.loop-i.invariant.0 c.loop-i.invariant.1 same c.in_ok-enter_record.ensures refl,
+      goes_on (records c.args.table.now) none inside c.loop-i.invariant.0 c.loop-i.invariant.1 same c.in_ok-enter_record.ensures refl,
     )
 
 pub returns : goal.returns
 returns c =
-    (records-passed c.args.table.now c.if-table-ne0.false _ _ c.loop-i.invariant.1 (ends (records c.args.table.now) c.loop-i.i (omega (arith, length-records c.args.table.now)) c.loop-i.invariant.2), c.loop-i.invariant.3)
+    records-passed c.args.table.now c.if-table-ne0.false _ _ c.loop-i.invariant.0
+    (ends (records c.args.table.now) c.loop-i.i (omega (arith, length-records c.args.table.now)) c.loop-i.invariant.1)

@@ -7,14 +7,16 @@ use Rattle.table_record.proofs.form.tested.Goals as goal
 
 pub returns-then-too_large : goal.returns-then-too_large
 returns-then-too_large c =
-    past _ _ _ _ _ _ refl ((known-test table_uses c.args.r).1 c.requires.0)
-    (met _ _ _ _ _ (c.too_large.ensures ∙ too-large-is table_uses c.args.r _ c.requires.1) c.if-too_large.true)
+    rw c.at.ensures
+    (past _ _ _ _ _ _ refl ((known-test table_uses c.args.r).1 c.requires.0)
+    (met _ _ _ _ _ (c.too_large.ensures ∙ too-large-is table_uses c.args.r _ c.requires.1) c.if-too_large.true))
 
 pub returns-then-not_zero : goal.returns-then-not_zero
 returns-then-not_zero c =
-    past _ _ _ _ _ _ refl ((known-test table_uses c.args.r).1 c.requires.0)
+    rw c.at-then-not_zero.ensures
+    (past _ _ _ _ _ _ refl ((known-test table_uses c.args.r).1 c.requires.0)
     (past _ _ _ _ _ _ (c.too_large.ensures ∙ too-large-is table_uses c.args.r _ c.requires.1) c.if-too_large.false
-    (met _ _ _ _ _ (c.not_zero.ensures ∙ not-zero-is table_uses c.args.r _ c.requires.1) c.if-not_zero.true))
+    (met _ _ _ _ _ (c.not_zero.ensures ∙ not-zero-is table_uses c.args.r _ c.requires.1) c.if-not_zero.true)))
 
 pub returns : goal.returns
 returns c =

@@ -1,34 +1,23 @@
-use mathlib.Core.Path.{◌≡◌, ap, ◌∙◌}
-use Prim.Native.Nat.{ℕ, ◌+◌}
-use native.Mathlib.Omega.{arith}
-use borrow.Author.Rules.{rules}
+use Rattle.std.proofs.Common.{rules, arith, get_or-take}
 use Rattle.text_fault.specs.Places.{ends_before, since}
 use Rattle.text_fault.proofs.Placing.{ends_more, since_none, ends_same, since-more}
 use Rattle.text_fault.proofs.position.position_at.Goals as goal
-use Rattle.text_fault.proofs.position.position_at.Goals.{then-text-i-eq-LINE_END, else-text-i-eq-LINE_END}
+use Rattle.text_fault.proofs.position.position_at.Goals.{then-b-eq10, else-b-eq10}
 
-pub loop-i-init : goal.loop-i-init
+pub loop-b-init : goal.loop-b-init
 unfolding ends_before since
-loop-i-init c = search rules
+loop-b-init c = search rules
 
-pub loop-i-preserved : goal.loop-i-preserved
-loop-i-preserved c =
-    elim c.if-text-i-eq-LINE_END.branch [
-      | then-text-i-eq-LINE_END w ↦
-          let more = ends_more c.args.text.now c.loop-i.i w.if-text-i-eq-LINE_END.true in
-          let none = since_none c.args.text.now c.loop-i.i w.if-text-i-eq-LINE_END.true in
-          (search rules, omega arith, omega arith, omega arith, omega arith)
-      | else-text-i-eq-LINE_END w ↦
-          let same = ends_same c.args.text.now c.loop-i.i w.if-text-i-eq-LINE_END.false in
-          let more = since-more c.args.text.now c.loop-i.i w.if-text-i-eq-LINE_END.false in
-          (search rules, omega arith, omega arith, omega arith, omega arith)
+pub loop-b-preserved : goal.loop-b-preserved
+loop-b-preserved c =
+    let same = get_or-take c.args.place c.args.text.now c.loop-b.b-index 0 (search rules) in
+    elim c.if-b-eq10.branch [
+      | then-b-eq10 w ↦
+          let more = ends_more c.args.text.now c.loop-b.b-index (search rules) in
+          let none = since_none c.args.text.now c.loop-b.b-index (search rules) in
+          record { line_bound = omega arith; column_bound = omega arith; line = omega arith; column = omega arith }
+      | else-b-eq10 w ↦
+          let still = ends_same c.args.text.now c.loop-b.b-index (search rules) in
+          let more = since-more c.args.text.now c.loop-b.b-index (search rules) in
+          record { line_bound = omega arith; column_bound = omega arith; line = omega arith; column = omega arith }
     ]
-
-pub returns : goal.returns
-returns c =
-    let all : c.loop-i.i ≡ c.args.place = omega arith in
-    record {
-      line = c.loop-i.invariant.3 ∙ ap (λ (j : ℕ). ends_before c.args.text.now j + 1) all;
-      column = c.loop-i.invariant.4 ∙ ap (λ (j : ℕ). since c.args.text.now j + 1) all;
-      inside = search rules;
-    }

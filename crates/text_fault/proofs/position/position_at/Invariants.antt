@@ -1,12 +1,12 @@
-use mathlib.Core.Path.{◌≡◌}
-use Prim.Native.Nat.{◌+◌, ◌-◌, ◌≤◌}
+use Rattle.std.proofs.Common.{◌≡◌, ◌+◌, ◌≤◌}
 use Rattle.text_fault.specs.Places.{ends_before, since}
 use Rattle.text_fault.proofs.position.position_at.Given as goal
 
--- The loop's invariant: line and column of the place i.
-abbrev pub invariant-loop-i : goal.invariant-loop-i
-invariant-loop-i l =
-    (l.i ≤ l.place) × (l.line ≤ l.i + 1) × (l.column ≤ l.i + 1) × (l.line ≡ ends_before l.text l.i + 1) × (l.column ≡ since l.text l.i + 1)
-
-abbrev pub decreases-loop-i : goal.decreases-loop-i
-decreases-loop-i l = l.place - l.i
+-- The line and the column of the byte that comes next.
+abbrev pub invariant-loop-b : goal.invariant-loop-b
+invariant-loop-b l = record {
+  line_bound : l.line ≤ l.b-index + 1;
+  column_bound : l.column ≤ l.b-index + 1;
+  line : l.line ≡ ends_before l.text l.b-index + 1;
+  column : l.column ≡ since l.text l.b-index + 1;
+}

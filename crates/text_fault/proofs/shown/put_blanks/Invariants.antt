@@ -1,13 +1,10 @@
-use mathlib.Core.Path.{◌≡◌}
-use Prim.Native.Nat.{◌+◌, ◌-◌, ◌≤◌}
-use lib.ListN.{length}
-use Rattle.text.specs.Text.{Adds}
+use Rattle.std.proofs.Common.{◌≡◌, ◌++◌, ◌+◌}
+use Rattle.arrayvec.specs.ArrayString.{array_string_len}
 use Rattle.text_fault.specs.Shown.{blanks}
 use Rattle.text_fault.proofs.shown.put_blanks.Given as goal
 
--- The loop's invariant: the first i blanks stand behind what stood there.
 abbrev pub invariant-loop-i : goal.invariant-loop-i
-invariant-loop-i l = (l.i ≤ l.n) × (length l.out ≡ length l.initial.out) × Adds l.initial.out l.at (blanks l.i) l.out (l.at + l.i)
-
-abbrev pub decreases-loop-i : goal.decreases-loop-i
-decreases-loop-i l = l.n - l.i
+invariant-loop-i g l = record {
+  adds : l.out.bytes ≡ l.initial.out.bytes ++ blanks l._i;
+  value : array_string_len l.out ≡ array_string_len l.initial.out + l._i;
+}

@@ -1,13 +1,10 @@
-use mathlib.Core.Path.{◌≡◌}
-use Prim.Native.Nat.{◌+◌, ◌-◌, ◌≤◌}
-use lib.ListN.{length}
-use Rattle.text.specs.Text.{Adds}
+use Rattle.std.proofs.Common.{◌≡◌, ◌++◌, ◌+◌}
+use Rattle.arrayvec.specs.ArrayString.{array_string_len}
 use Rattle.text_fault.specs.Shown.{signs}
 use Rattle.text_fault.proofs.shown.put_signs.Given as goal
 
--- The loop's invariant: the first i signs stand behind what stood there.
-abbrev pub invariant-loop-i : goal.invariant-loop-i
-invariant-loop-i l = (l.i ≤ l.n) × (length l.out ≡ length l.initial.out) × Adds l.initial.out l.at (signs l.text l.from l.i) l.out (l.at + l.i)
-
-abbrev pub decreases-loop-i : goal.decreases-loop-i
-decreases-loop-i l = l.n - l.i
+abbrev pub invariant-loop-b : goal.invariant-loop-b
+invariant-loop-b g l = record {
+  adds : l.out.bytes ≡ l.initial.out.bytes ++ signs l.shown 0 l.b-index;
+  value : array_string_len l.out ≡ array_string_len l.initial.out + l.b-index;
+}

@@ -3,7 +3,8 @@ use Rattle.trace.proofs.event.tested.Goals as goal
 
 pub returns-then-too_large-not_zero : goal.returns-then-too_large-not_zero
 returns-then-too_large-not_zero c =
-    wrong-field c.args.i c.args.e c.requires.0 _ _ _ c.requires.1 c.too_large.ensures c.not_zero.ensures c.if-too_large-not_zero.true
+    rw c.at.ensures
+    (wrong-field c.args.i c.args.e c.requires.0 _ _ _ c.requires.1 c.too_large.ensures c.not_zero.ensures c.if-too_large-not_zero.true)
 
 pub returns : goal.returns
 returns c =

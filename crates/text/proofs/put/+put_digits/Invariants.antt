@@ -1,5 +1,0 @@
--- `most` falls.
-use Rattle.text.proofs.put.+put_digits.Given as goal
-
-abbrev pub decreases-put_digits : goal.decreases-put_digits
-decreases-put_digits l = l.most

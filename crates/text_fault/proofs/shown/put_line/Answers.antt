@@ -1,9 +1,0 @@
-use borrow.Author.Rules.{rules}
-use Rattle.text.proofs.Adding.{then}
-use Rattle.text_fault.specs.Shown.{shown_line}
-use Rattle.text_fault.proofs.shown.put_line.Goals as goal
-
-pub returns : goal.returns
-unfolding shown_line
-returns c =
-    record { adds = then (then c.put_word-at.ensures.adds c.put_signs-at.ensures.adds) c.put_byte.ensures.adds; upper_bound = search rules }

@@ -1,9 +1,0 @@
-use borrow.Author.Rules.{rules}
-use Rattle.text.proofs.Adding.{then}
-use Rattle.text_fault.specs.Shown.{mark_line}
-use Rattle.text_fault.proofs.shown.put_mark.Goals as goal
-
-pub returns : goal.returns
-unfolding mark_line
-returns c =
-    record { adds = then c.put_word-at.ensures.adds (then c.put_blanks-at.ensures.adds c.put_word.ensures.adds); upper_bound = search rules }
