@@ -42,7 +42,7 @@ pub fn carry_out(m: &mut Machine, i: Record, next: Step) -> Record
     match next {
         Step::Read => {
             let e = event(next, p, i.location, m.memory[i.location as usize]);
-            machine_store::receive(m, i, e.value);
+            machine_store::receive(m, i, machine_store::register(i), e.value);
             e
         }
         Step::Write => {

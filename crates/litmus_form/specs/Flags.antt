@@ -6,13 +6,13 @@ use Rattle.litmus_model.specs.Forms as model
 use Rattle.litmus_form.specs.declared.forms.Form.{Form}
 use Rattle.litmus_form.specs.declared.patterns.Pattern.{Pattern}
 use Rattle.litmus_form.specs.declared.patterns.Pattern.TheVariants.{Mov, Mfence, Xchg, Xadd, Lock, Location, Register, Processor, Constant, Dollar, Mark, Closing, Past}
-use Rattle.litmus_form.specs.Patterns.{pattern_of}
+use Rattle.litmus_form.specs.Patterns.{pattern_of, numbered}
 
 -- ---- the table
 
--- the mark that closes a cell
+-- the mark that closes a cell, by its number
 abbrev pub marked : ℕ → Pattern → Pattern
-marked mark Closing = Mark mark
+marked mark Closing = numbered mark
 marked mark p = p
 
 abbrev pub form : ℕ → ℕ → Form

@@ -79,7 +79,7 @@ pub fn pattern_at(mark: u8, j: usize, at: usize) -> Pattern
     ensures { result ≡ code_at mark j at }
 {
     match PATTERNS[j][at] {
-        Pattern::Closing => Pattern::Mark(mark),
+        Pattern::Closing => Pattern::from(mark),
         pattern => pattern,
     }
 }

@@ -2,7 +2,7 @@
 ghost use Rattle.std.specs.Prelude.{[], ◌∷◌, ◌≡◌};
 ghost use Rattle.litmus_model.specs.Bytes.{same};
 ghost use Rattle.litmus_model.specs.Forms.{fits};
-ghost use Rattle.litmus_form.specs.Patterns.{pattern_of};
+ghost use Rattle.litmus_form.specs.Patterns.{pattern_of, numbered};
 
 use litmus_token::tokens::{is_constant, is_dollar, is_number};
 use litmus_token::words::{is_location, is_register, same_bytes};
@@ -25,6 +25,28 @@ pub enum Pattern {
     Closing,
     // Behind a form's last token.
     Past,
+}
+
+// By its number: from 32 on a mark is its byte. Stays for all numbers: `advance` promises what it promises of any mark. 0, and 11 to 31, are past a form's end.
+impl From<u8> for Pattern {
+    ghost from_gives = { λ n pattern. pattern ≡ numbered n };
+
+    fn from(n: u8) -> Pattern {
+        match n {
+            32.. => Pattern::Mark(n),
+            1 => Pattern::Mov,
+            2 => Pattern::Mfence,
+            3 => Pattern::Xchg,
+            4 => Pattern::Xadd,
+            5 => Pattern::Lock,
+            6 => Pattern::Location,
+            7 => Pattern::Register,
+            8 => Pattern::Processor,
+            9 => Pattern::Constant,
+            10 => Pattern::Dollar,
+            _ => Pattern::Past,
+        }
+    }
 }
 
 // The mark b, and nothing else.

@@ -14,8 +14,8 @@ use std::marker::Model;
 // A cell of a row: how many there are, at most as many as processors, and which it is.
 #[derive(Clone, Copy)]
 pub struct Column {
-    of: usize,
-    at: usize,
+    pub of: usize,
+    pub at: usize,
 }
 
 impl Model for Column {

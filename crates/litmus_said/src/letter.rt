@@ -5,11 +5,12 @@ ghost use Rattle.litmus_said.specs.Saying.{Locates};
 use model::table::Cells;
 use std::marker::Model;
 
-// The first `count` of `seen`, as many as there are locations at most. Stays its own: an ArrayVec would say nothing of letters.
-#[derive(Drop)]
+// The first `count` of `seen`, as many as there are locations at most. Its fields are public: a caller may begin with any letters, given twice too.
+// Not Copy, since the view forgets what is behind them. Stays its own: an ArrayVec would say nothing of letters.
+#[derive(Clone, Drop)]
 pub struct Letters {
-    seen: [u8; Cells::LOCATIONS],
-    count: usize,
+    pub seen: [u8; Cells::LOCATIONS],
+    pub count: usize,
 }
 
 impl Model for Letters {

@@ -1,9 +1,8 @@
 // What can stand, in words: a list.
 ghost use Rattle.std.specs.Prelude.{◌+◌, ◌≤◌, ◌<◌, length};
-ghost use Rattle.arrayvec.specs.ArrayString.{array_string_len};
 
 use crate::samples::{ROWS, WORDS, row_at};
-use arrayvec::ArrayString;
+use text::put::put_word;
 
 // What is put between words.
 const BETWEEN: usize = 4;
@@ -24,17 +23,19 @@ fn between(done: usize, many: usize) -> &'static str
 }
 
 // The words of all samples that can stand.
-pub fn put_standing<const N: usize>(out: &mut ArrayString<N>, which: [bool; ROWS])
-    requires { array_string_len out.old + LIST ≤ N }
-    ensures { array_string_len out.new ≤ array_string_len out.old + LIST }
+pub fn put_standing(out: &mut [u8], at: usize, which: [bool; ROWS]) -> usize
+    requires { at + LIST ≤ length out.old }
+    ensures { result ≤ at + LIST }
 {
     let many = which.iter().filter(|can| **can).count();
+    let mut next = at;
     let mut done: usize = 0;
     for (k, can) in which.iter().enumerate() {
         if *can {
-            out.push_str(between(done, many));
-            out.push_str(row_at(k).1);
+            next = put_word(out, next, between(done, many).as_bytes());
+            next = put_word(out, next, row_at(k).1.as_bytes());
             done += 1;
         }
     }
+    next
 }

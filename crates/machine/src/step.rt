@@ -34,7 +34,12 @@ pub fn step(program: &Program, m: &mut Machine, e: Record) -> Attempt
     if u8::from(next) != e.kind {
         return Err(Condition::AnotherKind);
     }
-    next::take_next(m, i, next, e)?;
-    machine_store::advance(m, i);
-    Ok(())
+    // Stays a match: the edit `refused_step_taken` answers the second arm as taken, and a `?` has none.
+    match next::take_next(m, i, next, e) {
+        Ok(()) => {
+            machine_store::advance(m, i);
+            Ok(())
+        }
+        Err(why) => Err(why),
+    }
 }

@@ -24,7 +24,7 @@ pub fn read(m: &mut Machine, i: Record, e: Record) -> Attempt
     if !right {
         return Err(Condition::NotRight);
     }
-    machine_store::receive(m, i, e.value);
+    machine_store::receive(m, i, machine_store::register(i), e.value);
     machine_store::count(m, from);
     Ok(())
 }

@@ -44,11 +44,15 @@ abbrev pub assigned_in : State → Record → ℕ → State
 assigned_in m i v =
     parts (set m.registers (register_of i) v) m.memory m.kept m.at m.phase m.locations m.values m.issued m.drained m.holder m.own
 
--- a load's read goes into the register, an exchange's is kept aside
-abbrev pub received_in : State → Record → ℕ → State
-received_in m i v =
-    parts (received_registers m.registers i.kind (register_of i) v) m.memory (received_kept m.kept i.kind i.processor v) m.at m.phase m.locations m.values m.issued
+-- a load's read goes into register c, an exchange's is kept aside
+abbrev pub received_at : State → Record → ℕ → ℕ → State
+received_at m i c v =
+    parts (received_registers m.registers i.kind c v) m.memory (received_kept m.kept i.kind i.processor v) m.at m.phase m.locations m.values m.issued
     m.drained m.holder m.own
+
+-- into the instruction's own
+abbrev pub received_in : State → Record → ℕ → State
+received_in m i v = received_at m i (register_of i) v
 
 -- a read, by where it got its value
 abbrev pub counted_in : State → Origin → State

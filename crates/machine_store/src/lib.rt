@@ -3,7 +3,7 @@
 
 ghost use Rattle.std.specs.Prelude.{◌≡◌, ◌<◌};
 ghost use Rattle.model.specs.Code.{register_of};
-ghost use Rattle.machine_store.specs.Stores.{after_drain, assigned_in, received_in, counted_in, exchanged_in, issued_in, advanced_in, Own, Issuable, MayCount, Drainable, Onward};
+ghost use Rattle.machine_store.specs.Stores.{after_drain, assigned_in, received_at, counted_in, exchanged_in, issued_in, advanced_in, Own, Issuable, MayCount, Drainable, Onward};
 
 use machine_rules::program;
 use machine_state::state::Machine;
@@ -20,13 +20,13 @@ pub fn register(i: Record) -> usize
     Cells::REGISTERS * (i.processor as usize) + (i.register as usize)
 }
 
-// A load's read goes into the register, an exchange's is kept aside.
-pub fn receive(m: &mut Machine, i: Record, v: u32)
-    requires { Own i }
-    ensures { m.new ≡ received_in m.old i v }
+// A load's read goes into register c, among all registers, an exchange's is kept aside.
+pub fn receive(m: &mut Machine, i: Record, c: usize, v: u32)
+    requires { (i.processor < Program.PROCESSORS) × (c < Cells.ALL_REGISTERS) }
+    ensures { m.new ≡ received_at m.old i c v }
 {
     match Role::from(i.kind) {
-        Role::Load => m.registers[register(i)] = v,
+        Role::Load => m.registers[c] = v,
         _ => m.kept[i.processor as usize] = v,
     }
 }

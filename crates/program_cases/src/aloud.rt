@@ -2,7 +2,7 @@
 ghost use Rattle.case.specs.Parts.{Fits};
 
 use crate::answer::answer;
-use crate::input::{Parts, WORDS, read_case};
+use crate::input::{Broken, Parts, WORDS, read_case};
 use ambercell::CAnswer;
 use case::head::{Head, MOST};
 use case::words::{LONG, put_long};
@@ -34,8 +34,20 @@ fn answer_aloud<O: Write>(output: &mut O, head: Head, parts: &mut Parts)
     say_answer(output, said, &room[..head.room]);
 }
 
+// No line of standard error is longer.
+const LINE: usize = 128;
+
 // More than anybody sends. Stays a count: a loop without an end needs a handle that HANDLES does not allow.
 const CASES: u64 = 1000000000000;
+
+// What ends the answers, in one write: `writeln!` on the output itself would write it in three pieces.
+fn complain<E: Write>(errors: &mut E, broken: Broken) {
+    let mut line = [0u8; LINE];
+    let mut rest = &mut line[..];
+    let _ = writeln!(rest, "cases: {broken}");
+    let n = LINE.saturating_sub(rest.len());
+    let _ = errors.write_all(&line[..n]);
+}
 
 pub fn answer_all<I: Read, O: Write, E: Write>(input: &mut I, output: &mut O, errors: &mut E) {
     let mut parts = Parts {
@@ -49,7 +61,7 @@ pub fn answer_all<I: Read, O: Write, E: Write>(input: &mut I, output: &mut O, er
             Ok(Some(head)) => answer_aloud(output, head, &mut parts),
             Ok(None) => return,
             Err(broken) => {
-                let _ = writeln!(errors, "cases: {broken}");
+                complain(errors, broken);
                 return;
             }
         }

@@ -1,4 +1,4 @@
-// Text in a string of fixed room: numbers, and the text of a reply.
+// Text as bytes in a lent buffer: numbers, and the text of a reply.
 #![tactic(auto)]
 
 pub mod lines;

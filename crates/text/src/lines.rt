@@ -1,11 +1,10 @@
 // The lines of a listing.
-ghost use Rattle.std.specs.Prelude.{◌≡◌, ◌++◌, ◌+◌, ◌≤◌, ◌<◌, length};
-ghost use Rattle.arrayvec.specs.ArrayString.{array_string_len};
+ghost use Rattle.std.specs.Prelude.{◌≡◌, ◌+◌, ◌≤◌, ◌<◌, length};
 ghost use Rattle.model.specs.Reply.{number_of};
+ghost use Rattle.text.specs.Text.{Adds};
 ghost use Rattle.text.specs.Reply.{finished_line, processor_line, processor_lines, memory_line, own_line, refused_line};
 
-use crate::put::{DIGITS, SPACED, put_number, put_numbers};
-use arrayvec::ArrayString;
+use crate::put::{DIGITS, LINE_END, SPACED, put_byte, put_number, put_numbers, put_word};
 use model::answer::Refused;
 use model::table::{Cells, Program};
 
@@ -23,83 +22,78 @@ pub const MEMORY: usize = SPACED * Cells::LOCATIONS + 2;
 // Nor that of reads from own buffers: its word of four bytes, how many they are and the line's end.
 pub const OWN: usize = DIGITS + 5;
 
-// Stays, as each line below, a function of its own and no Display: the promise of `write!` does not say that it succeeds where there is room.
-#[tactic(auto, unfolding(crate::specs::Reply::refused_line))]
-pub fn put_refused<const N: usize>(out: &mut ArrayString<N>, refused: Refused)
-    requires { array_string_len out.old + FIRST ≤ N }
-    ensures adds { out.new.bytes ≡ out.old.bytes ++ refused_line (number_of refused.why) refused.place }
-    ensures upper_bound { array_string_len out.new ≤ array_string_len out.old + FIRST }
+pub fn put_refused(out: &mut [u8], refused: Refused) -> usize
+    requires { FIRST ≤ length out.old }
+    ensures adds { Adds out.old 0 (refused_line (number_of refused.why) refused.place) out.new result }
+    ensures upper_bound { result ≤ FIRST }
 {
-    out.push_str("refused ");
-    put_number(out, u64::from(refused.why));
-    out.push_str(" at ");
-    put_number(out, refused.place as u64);
-    out.push_str("\n");
+    let at = put_word(out, 0, b"refused ");
+    let at = put_number(out, at, u64::from(refused.why));
+    let at = put_word(out, at, b" at ");
+    let at = put_number(out, at, refused.place as u64);
+    put_byte(out, at, LINE_END)
 }
 
-#[tactic(auto, unfolding(crate::specs::Reply::finished_line))]
-pub fn put_finished<const N: usize>(out: &mut ArrayString<N>, steps: usize)
-    requires { array_string_len out.old + FIRST ≤ N }
-    ensures adds { out.new.bytes ≡ out.old.bytes ++ finished_line steps }
-    ensures upper_bound { array_string_len out.new ≤ array_string_len out.old + FIRST }
+pub fn put_finished(out: &mut [u8], steps: usize) -> usize
+    requires { FIRST ≤ length out.old }
+    ensures adds { Adds out.old 0 (finished_line steps) out.new result }
+    ensures upper_bound { result ≤ FIRST }
 {
-    out.push_str("finished ");
-    put_number(out, steps as u64);
-    out.push_str("\n");
+    let at = put_word(out, 0, b"finished ");
+    let at = put_number(out, at, steps as u64);
+    put_byte(out, at, LINE_END)
 }
 
 // The room stays a slice, with its length in a clause, here and below: an array would ask more of the callers of put_reply.
-#[tactic(auto, unfolding(crate::specs::Reply::processor_line))]
-fn put_processor<const N: usize>(out: &mut ArrayString<N>, room: &[u32], p: usize)
-    requires in_bounds { array_string_len out.old + PROCESSOR ≤ N }
+fn put_processor(out: &mut [u8], at: usize, room: &[u32], p: usize) -> usize
+    requires at_in_bounds { at + PROCESSOR ≤ length out.old }
     requires room_value { length room.now ≡ Cells.RESULT }
     requires p_bound { p < Program.PROCESSORS }
-    ensures adds { out.new.bytes ≡ out.old.bytes ++ processor_line room.now p }
-    ensures upper_bound { array_string_len out.new ≤ array_string_len out.old + PROCESSOR }
+    ensures adds { Adds out.old at (processor_line room.now p) out.new result }
+    ensures upper_bound { result ≤ at + PROCESSOR }
 {
     let first = p * Cells::REGISTERS;
     let end = first + Cells::REGISTERS;
-    out.push_str("p");
-    put_number(out, p as u64);
-    put_numbers(out, &room[first..end]);
-    out.push_str("\n");
+    let at = put_byte(out, at, b'p');
+    let at = put_number(out, at, p as u64);
+    let at = put_numbers(out, at, &room[first..end]);
+    put_byte(out, at, LINE_END)
 }
 
 // Stays a loop over numbers: over the chunks of the room the proof did not close.
-#[tactic(auto, using(crate::proofs::Adding::one_more_processor), unfolding(crate::specs::Reply::processor_lines))]
-pub fn put_processors<const N: usize>(out: &mut ArrayString<N>, room: &[u32])
-    requires in_bounds { array_string_len out.old + PROCESSORS ≤ N }
+pub fn put_processors(out: &mut [u8], at: usize, room: &[u32]) -> usize
+    requires at_in_bounds { at + PROCESSORS ≤ length out.old }
     requires room_value { length room.now ≡ Cells.RESULT }
-    ensures adds { out.new.bytes ≡ out.old.bytes ++ processor_lines room.now Program.PROCESSORS }
-    ensures upper_bound { array_string_len out.new ≤ array_string_len out.old + PROCESSORS }
+    ensures fact { Adds out.old at (processor_lines room.now Program.PROCESSORS) out.new result }
+    ensures upper_bound { result ≤ at + PROCESSORS }
 {
+    let mut next = at;
     for p in 0..Program::PROCESSORS {
-        put_processor(out, room, p);
+        next = put_processor(out, next, room, p);
     }
+    next
 }
 
-#[tactic(auto, unfolding(crate::specs::Reply::memory_line))]
-pub fn put_memory<const N: usize>(out: &mut ArrayString<N>, room: &[u32])
-    requires in_bounds { array_string_len out.old + MEMORY ≤ N }
+pub fn put_memory(out: &mut [u8], at: usize, room: &[u32]) -> usize
+    requires at_in_bounds { at + MEMORY ≤ length out.old }
     requires room_value { length room.now ≡ Cells.RESULT }
-    ensures adds { out.new.bytes ≡ out.old.bytes ++ memory_line room.now }
-    ensures upper_bound { array_string_len out.new ≤ array_string_len out.old + MEMORY }
+    ensures adds { Adds out.old at (memory_line room.now) out.new result }
+    ensures upper_bound { result ≤ at + MEMORY }
 {
     let first = Cells::ALL_REGISTERS;
     let end = first + Cells::LOCATIONS;
-    out.push_str("m");
-    put_numbers(out, &room[first..end]);
-    out.push_str("\n");
+    let at = put_byte(out, at, b'm');
+    let at = put_numbers(out, at, &room[first..end]);
+    put_byte(out, at, LINE_END)
 }
 
-#[tactic(auto, unfolding(crate::specs::Reply::own_line))]
-pub fn put_own<const N: usize>(out: &mut ArrayString<N>, room: &[u32])
-    requires in_bounds { array_string_len out.old + OWN ≤ N }
+pub fn put_own(out: &mut [u8], at: usize, room: &[u32]) -> usize
+    requires at_in_bounds { at + OWN ≤ length out.old }
     requires room_value { length room.now ≡ Cells.RESULT }
-    ensures adds { out.new.bytes ≡ out.old.bytes ++ own_line room.now }
-    ensures upper_bound { array_string_len out.new ≤ array_string_len out.old + OWN }
+    ensures adds { Adds out.old at (own_line room.now) out.new result }
+    ensures upper_bound { result ≤ at + OWN }
 {
-    out.push_str("own ");
-    put_number(out, u64::from(room[Cells::ALL]));
-    out.push_str("\n");
+    let at = put_word(out, at, b"own ");
+    let at = put_number(out, at, u64::from(room[Cells::ALL]));
+    put_byte(out, at, LINE_END)
 }

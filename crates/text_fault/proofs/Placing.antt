@@ -44,9 +44,9 @@ module _ (text : List ℕ) (i : ℕ) where
 
 -- ---- signs
 
-pub one_more_sign : (text : List ℕ) (from i : ℕ) → signs text from i ++ (sign_of (get_or text (from + i) 0) ∷ []) ≡ signs text from (i + 1)
+pub one-more-sign : (text : List ℕ) (from i : ℕ) → signs text from i ++ (sign_of (get_or text (from + i) 0) ∷ []) ≡ signs text from (i + 1)
 unfolding signs
-one_more_sign text from i = rw (add-one i)
+one-more-sign text from i = rw (add-one i)
 
 -- the signs of a part of a text, cut out of it
 pub signs-in : (text : List ℕ) (from n m : ℕ) → n ≤ m → signs (take m (drop from text)) 0 n ≡ signs text from n
@@ -62,6 +62,6 @@ shown-in text from to h k =
     let long : length (take (to - from) (drop from text)) ≡ to - from = simp (length-take, length-drop) (omega arith) in
     rw (long, signs-in text from (to - from) (to - from) (omega arith))
 
-pub one_more_blank : (i : ℕ) → blanks i ++ (32 ∷ []) ≡ blanks (i + 1)
+pub one-more-blank : (i : ℕ) → blanks i ++ (32 ∷ []) ≡ blanks (i + 1)
 unfolding blanks
-one_more_blank i = rw (add-one i)
+one-more-blank i = rw (add-one i)

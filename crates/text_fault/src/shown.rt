@@ -1,12 +1,11 @@
 // The lines of a fault: number, place, line and column, and then the text's line with a mark under the place.
-ghost use Rattle.std.specs.Prelude.{◌≡◌, ◌++◌, ◌+◌, ◌≤◌, ◌<◌, length};
-ghost use Rattle.arrayvec.specs.ArrayString.{array_string_len};
+ghost use Rattle.std.specs.Prelude.{◌≡◌, ◌++◌, ◌+◌, ◌≤◌, length};
+ghost use Rattle.text.specs.Text.{Adds};
 ghost use Rattle.text_fault.specs.Shown.{sign_of, signs, blanks, shown_line, mark_line, position_words, fault_line};
 
 use crate::line::WIDTH;
 use crate::position::Position;
-use arrayvec::ArrayString;
-use text::put::{DIGITS, put_number};
+use text::put::{DIGITS, LINE_END, put_byte, put_number, put_word};
 
 // No position is longer: two words, two numbers and the line's end.
 const POSITION: usize = DIGITS + DIGITS + 17;
@@ -22,99 +21,97 @@ const LINE: usize = INDENT + WIDTH + 2;
 pub const LINES: usize = LINE + LINE;
 
 // A byte takes one column: what has no sign of its own is a question mark, and a carriage return, which is a blank, a space.
-fn sign(b: u8) -> char
-    ensures value { result ≡ sign_of b }
-    ensures ascii { result < 128 }
+pub fn sign(b: u8) -> u8
+    ensures { result ≡ sign_of b }
 {
     match b {
-        b'\r' => ' ',
-        b' '..=b'~' => char::from(b),
-        _ => '?',
+        b'\r' => b' ',
+        b' '..=b'~' => b,
+        _ => b'?',
     }
 }
 
-#[tactic(auto, using(crate::proofs::Placing::one_more_sign), unfolding(crate::specs::Shown::signs))]
-fn put_signs<const N: usize>(out: &mut ArrayString<N>, shown: &[u8])
-    requires { array_string_len out.old + length shown.now ≤ N }
-    ensures adds { out.new.bytes ≡ out.old.bytes ++ signs shown.now 0 (length shown.now) }
-    ensures value { array_string_len out.new ≡ array_string_len out.old + length shown.now }
+fn put_signs(out: &mut [u8], at: usize, shown: &[u8]) -> usize
+    requires { at + length shown.now ≤ length out.old }
+    ensures adds { Adds out.old at (signs shown.now 0 (length shown.now)) out.new result }
+    ensures value { result ≡ at + length shown.now }
 {
+    let mut next = at;
     for b in shown {
-        out.push(sign(*b));
+        next = put_byte(out, next, sign(*b));
     }
+    next
 }
 
-#[tactic(auto, using(crate::proofs::Placing::one_more_blank), unfolding(crate::specs::Shown::blanks))]
-fn put_blanks<const N: usize>(out: &mut ArrayString<N>, n: usize)
-    requires { array_string_len out.old + n ≤ N }
-    ensures adds { out.new.bytes ≡ out.old.bytes ++ blanks n }
-    ensures value { array_string_len out.new ≡ array_string_len out.old + n }
+fn put_blanks(out: &mut [u8], at: usize, n: usize) -> usize
+    requires { at + n ≤ length out.old }
+    ensures adds { Adds out.old at (blanks n) out.new result }
+    ensures value { result ≡ at + n }
 {
+    let mut next = at;
     for _i in 0..n {
-        out.push_str(" ");
+        next = put_byte(out, next, b' ');
     }
+    next
 }
 
-#[tactic(auto, unfolding(crate::specs::Shown::shown_line))]
-fn put_line<const N: usize>(out: &mut ArrayString<N>, shown: &[u8])
-    requires in_bounds { array_string_len out.old + LINE ≤ N }
+fn put_line(out: &mut [u8], at: usize, shown: &[u8]) -> usize
+    requires at_in_bounds { at + LINE ≤ length out.old }
     requires narrow { length shown.now ≤ WIDTH }
-    ensures adds { out.new.bytes ≡ out.old.bytes ++ shown_line shown.now 0 (length shown.now) }
-    ensures upper_bound { array_string_len out.new ≤ array_string_len out.old + LINE }
+    ensures adds { Adds out.old at (shown_line shown.now 0 (length shown.now)) out.new result }
+    ensures upper_bound { result ≤ at + LINE }
 {
-    out.push_str("  ");
-    put_signs(out, shown);
-    out.push_str("\n");
+    let at = put_word(out, at, b"  ");
+    let at = put_signs(out, at, shown);
+    put_byte(out, at, LINE_END)
 }
 
 // The mark, behind k columns.
-#[tactic(auto, unfolding(crate::specs::Shown::mark_line))]
-fn put_mark<const N: usize>(out: &mut ArrayString<N>, k: usize)
-    requires in_bounds { array_string_len out.old + LINE ≤ N }
+fn put_mark(out: &mut [u8], at: usize, k: usize) -> usize
+    requires at_in_bounds { at + LINE ≤ length out.old }
     requires k_bound { k ≤ WIDTH }
-    ensures adds { out.new.bytes ≡ out.old.bytes ++ mark_line k }
-    ensures upper_bound { array_string_len out.new ≤ array_string_len out.old + LINE }
+    ensures adds { Adds out.old at (mark_line k) out.new result }
+    ensures upper_bound { result ≤ at + LINE }
 {
-    out.push_str("  ");
-    put_blanks(out, k);
-    out.push_str("^\n");
+    let at = put_word(out, at, b"  ");
+    let at = put_blanks(out, at, k);
+    put_word(out, at, b"^\n")
 }
 
 // Both: the mark stands under byte k of those shown.
-pub fn put_shown<const N: usize>(out: &mut ArrayString<N>, shown: &[u8], k: usize)
-    requires in_bounds { array_string_len out.old + LINES ≤ N }
+pub fn put_shown(out: &mut [u8], at: usize, shown: &[u8], k: usize) -> usize
+    requires at_in_bounds { at + LINES ≤ length out.old }
     requires narrow { length shown.now ≤ WIDTH }
     requires k_bound { k ≤ WIDTH }
-    ensures adds { out.new.bytes ≡ out.old.bytes ++ (shown_line shown.now 0 (length shown.now) ++ mark_line k) }
-    ensures upper_bound { array_string_len out.new ≤ array_string_len out.old + LINES }
+    ensures adds { Adds out.old at (shown_line shown.now 0 (length shown.now) ++ mark_line k) out.new result }
+    ensures upper_bound { result ≤ at + LINES }
 {
-    put_line(out, shown);
-    put_mark(out, k);
+    let at = put_line(out, at, shown);
+    put_mark(out, at, k)
 }
 
 // Behind a number and a place.
-#[tactic(auto, unfolding(crate::specs::Shown::position_words))]
-fn put_position<const N: usize>(out: &mut ArrayString<N>, p: Position)
-    requires { array_string_len out.old + POSITION ≤ N }
-    ensures adds { out.new.bytes ≡ out.old.bytes ++ position_words p.line p.column }
-    ensures upper_bound { array_string_len out.new ≤ array_string_len out.old + POSITION }
+fn put_position(out: &mut [u8], at: usize, p: Position) -> usize
+    requires { at + POSITION ≤ length out.old }
+    ensures adds { Adds out.old at (position_words p.line p.column) out.new result }
+    ensures upper_bound { result ≤ at + POSITION }
 {
-    out.push_str(": line ");
-    put_number(out, p.line as u64);
-    out.push_str(", column ");
-    put_number(out, p.column as u64);
-    out.push_str("\n");
+    let at = put_word(out, at, b": line ");
+    let at = put_number(out, at, p.line as u64);
+    let at = put_word(out, at, b", column ");
+    let at = put_number(out, at, p.column as u64);
+    put_byte(out, at, LINE_END)
 }
 
-#[tactic(auto, unfolding(crate::specs::Shown::fault_line))]
-pub fn put_first<const N: usize>(out: &mut ArrayString<N>, number: u64, place: usize, p: Position)
-    requires { array_string_len out.old + FIRST ≤ N }
-    ensures adds { out.new.bytes ≡ out.old.bytes ++ fault_line number place p.line p.column }
-    ensures upper_bound { array_string_len out.new ≤ array_string_len out.old + FIRST }
+// At the start of out.
+pub fn put_first(out: &mut [u8], number: u64, place: usize, p: Position) -> usize
+    requires { FIRST ≤ length out.old }
+    ensures adds { Adds out.old 0 (fault_line number place p.line p.column) out.new result }
+    ensures upper_bound { result ≤ FIRST }
 {
-    out.push_str("refused ");
-    put_number(out, number);
-    out.push_str(" at ");
-    put_number(out, place as u64);
-    put_position(out, p);
+    let at = put_word(out, 0, b"refused ");
+    let at = put_number(out, at, number);
+    let at = put_word(out, at, b" at ");
+    let at = put_number(out, at, place as u64);
+    put_position(out, at, p)
 }

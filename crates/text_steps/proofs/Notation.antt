@@ -26,9 +26,9 @@ letter_of (Some Lock) = 76
 letter_of (Some Unlock) = 85
 letter_of (Some Local) = 78
 
-pub letter_is : (kind : ℕ) (s : Option Step) → step_of kind ≡ s → letter_of s ∷ [] ≡ get_or letters kind unknown ∷ []
+pub letter_is : (kind : ℕ) (s : Option Step) → step_of kind ≡ s → letter_of s ≡ get_or letters kind unknown
 unfolding step_of
-letter_is kind s e = ap (λ n. n ∷ []) (ap letter_of (sym e) ∙ go kind)
+letter_is kind s e = ap letter_of (sym e) ∙ go kind
   where
     go : (kind : ℕ) → letter_of (step_of kind) ≡ get_or letters kind unknown
     go zero = refl
@@ -48,7 +48,7 @@ unfolding step_lines
 lines-append [] fs = refl
 lines-append (e ∷ es) fs = rw (lines-append es fs, append_assoc)
 
-one-more-step : (bytes : List ℕ) (i : ℕ)
+pub one-more-step : (bytes : List ℕ) (i : ℕ)
     → step_lines (records_from bytes 0 i) ++ step_line (record_at bytes i) ≡ step_lines (records_from bytes 0 (i + 1))
 unfolding step_lines records_from
 one-more-step bytes i =
@@ -57,7 +57,3 @@ one-more-step bytes i =
     sym
     (ap step_lines (records-split bytes 0 i 1) ∙ lines-append (records_from bytes 0 i) (records_from bytes (0 + i) 1)
     ∙ (λ k. step_lines (records_from bytes 0 i) ++ step_lines (records_from bytes (z k) 1)) ∙ ap (λ (t : List ℕ). step_lines (records_from bytes 0 i) ++ t) one)
-
-pub one_more_step : (before bytes : List ℕ) (i : ℕ)
-    → (before ++ step_lines (records_from bytes 0 i)) ++ step_line (record_at bytes i) ≡ before ++ step_lines (records_from bytes 0 (i + 1))
-one_more_step before bytes i = simp append_assoc (ap (λ (x : List ℕ). before ++ x) (one-more-step bytes i))

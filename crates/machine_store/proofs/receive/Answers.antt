@@ -5,7 +5,7 @@ use Rattle.model.specs.declared.kind.Role.TheVariants.{Unknown, InitialMemory, I
 use Rattle.machine_store.proofs.receive.Goals as goal
 
 pub returns-in-Load : goal.returns-in-Load
-returns-in-Load c = rw (← c.from.ensures, c.in-Load.is, c.register.ensures)
+returns-in-Load c = rw (← c.from.ensures, c.in-Load.is)
 
 -- no other role loads
 loads-false : (o : Role) → ¬ (o ≡ Load) → (acts o).loads ≡ false

@@ -2,7 +2,7 @@ use Rattle.finish_step.proofs.Carried.{read-carried, write-carried, fence-carrie
 use Rattle.finish_step.proofs.carry.carry_out.Goals as goal
 
 pub returns-in-Read : goal.returns-in-Read
-returns-in-Read c = rw (c.receive.ensures, c.event-e.ensures, c.in-Read.is) (read-carried _ _ c.requires.dry)
+returns-in-Read c = rw (c.receive.ensures, c.register.ensures, c.event-e.ensures, c.in-Read.is) (read-carried _ _ c.requires.dry)
 
 pub returns-in-Write : goal.returns-in-Write
 returns-in-Write c =

@@ -1,7 +1,4 @@
-use mathlib.Core.Path.{sym, subst, ◌∙◌}
-use Rattle.model.specs.Code.{Attempt}
-use Rattle.model.proofs.Raised.{raised}
-use Rattle.machine.specs.Ready.{Steps}
+use mathlib.Core.Path.{sym, ◌∙◌}
 use Rattle.model.proofs.Events.{low-processor}
 use Rattle.machine.proofs.Taking.{can-drain, drains-it, at-the-end, below, known-kind, none-left, not-so, may-take, onwards, takes-it, turns-it}
 use Rattle.machine.proofs.step.step.Goals as goal
@@ -42,20 +39,18 @@ take_next-requires c =
     may-take _ _ c.requires.0 c.args.e c.requires.1 (rw (← c.count.ensures) c.if-count-a.false) _ c.instruction-i.ensures
     (λ z. c.if-e-from.false (z ∙ sym c.from.ensures)) c.in-Some.next (sym c.in-Some.is ∙ c.next_step.ensures) (sym c.from-2.ensures ∙ c.if-from-e.false)
 
-pub returns-in_err-take_next : goal.returns-in_err-take_next
-returns-in_err-take_next c =
-    subst (λ (r : Attempt). Steps c.args.program.now c.args.m.now c.args.e r c.take_next.new.m)
-    (sym (raised c.from_residual.result c.in_err-take_next.field-0.0 c.from_residual.ensures.1))
-    (turns-it _ _ c.requires.0 c.args.e c.requires.1 (rw (← c.count.ensures) c.if-count-a.false) _ c.instruction-i.ensures
+pub returns-in-Err : goal.returns-in-Err
+returns-in-Err c =
+    turns-it _ _ c.requires.0 c.args.e c.requires.1 (rw (← c.count.ensures) c.if-count-a.false) _ c.instruction-i.ensures
     (λ z. c.if-e-from.false (z ∙ sym c.from.ensures)) c.in-Some.next (sym c.in-Some.is ∙ c.next_step.ensures) (sym c.from-2.ensures ∙ c.if-from-e.false) _ _
-    c.take_next.ensures _ c.in_err-take_next.was)
+    c.take_next.ensures _ c.in-Err.is
 
 pub advance-requires : goal.advance-requires
 advance-requires c =
     onwards _ _ c.requires.0 c.args.e c.requires.1 (rw (← c.count.ensures) c.if-count-a.false) _ c.instruction-i.ensures
     (λ z. c.if-e-from.false (z ∙ sym c.from.ensures)) c.in-Some.next (sym c.in-Some.is ∙ c.next_step.ensures) (sym c.from-2.ensures ∙ c.if-from-e.false) _ _ c.take_next.ensures
 
-pub returns : goal.returns
-returns c =
+pub returns-in-Ok : goal.returns-in-Ok
+returns-in-Ok c =
     takes-it _ _ c.requires.0 c.args.e c.requires.1 (rw (← c.count.ensures) c.if-count-a.false) _ c.instruction-i.ensures
-    (λ z. c.if-e-from.false (z ∙ sym c.from.ensures)) c.in-Some.next (sym c.in-Some.is ∙ c.next_step.ensures) (sym c.from-2.ensures ∙ c.if-from-e.false) _ _ c.take_next.ensures c.in_ok-take_next.was _ c.advance.ensures
+    (λ z. c.if-e-from.false (z ∙ sym c.from.ensures)) c.in-Some.next (sym c.in-Some.is ∙ c.next_step.ensures) (sym c.from-2.ensures ∙ c.if-from-e.false) _ _ c.take_next.ensures c.in-Ok.is _ c.advance.ensures

@@ -1,10 +1,11 @@
-use Rattle.std.proofs.Common.{◌≡◌, ◌++◌, ◌+◌, ◌*◌, ◌≤◌}
-use Rattle.arrayvec.specs.ArrayString.{array_string_len}
+use Rattle.std.proofs.Common.{◌≡◌, ◌+◌, ◌*◌, ◌≤◌, length}
+use Rattle.text.specs.Text.{Adds}
 use Rattle.text.specs.Reply.{processor_lines}
 use Rattle.text.proofs.lines.put_processors.Given as goal
 
 abbrev pub invariant-loop-p : goal.invariant-loop-p
-invariant-loop-p g l = record {
-  adds : l.out.bytes ≡ l.initial.out.bytes ++ processor_lines l.room l.p;
-  upper_bound : array_string_len l.out ≤ array_string_len l.initial.out + 106 * l.p;
+invariant-loop-p l = record {
+  adds : Adds l.initial.out l.at (processor_lines l.room l.p) l.out l.next;
+  upper_bound : l.next ≤ l.at + 106 * l.p;
+  same_length : length l.out ≡ length l.initial.out;
 }

@@ -1,0 +1,11 @@
+use Rattle.std.proofs.Common.{ap}
+use Rattle.text.specs.Text.{decimal}
+use Rattle.text.specs.Reply.{refused_line}
+use Rattle.text.proofs.Adding.{then, said}
+use Rattle.text.proofs.lines.put_refused.Goals as goal
+
+pub returns-clause-adds : goal.returns-clause-adds
+unfolding refused_line
+returns-clause-adds c =
+    let n = said c.put_number-at.ensures.adds (ap decimal c.from.ensures) in
+    then (then c.put_word-at.ensures.adds (then n (then c.put_word-at-2.ensures.adds c.put_number-at-2.ensures.adds))) c.put_byte.ensures.adds
